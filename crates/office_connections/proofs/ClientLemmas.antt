@@ -2,7 +2,6 @@
 use Rattle.std.proofs.Common.{◌≡◌, ℕ, ◌+◌, ◌<◌, ◌≤◌, ◌⊎◌, Bool, false, true, List, [], ◌∷◌, ◌++◌, length}
 use Rattle.std.proofs.Common.{Option, None, Result, Ok, Err, IfOk, IfErr, IsTrue, refl, sym, subst}
 use Rattle.std.proofs.Common.{◌∙◌, arith, inl, inr}
-use Rattle.std.specs.Io.KnownBytes.{Appends}
 use Rattle.office_messages.specs.declared.connection.Served.{Served}
 use Rattle.office_messages.specs.declared.connection.ServeFault.{ServeFault}
 use Rattle.office_messages.specs.Reply.{PlainReply}
@@ -13,11 +12,11 @@ use Rattle.office_messages.proofs.RunLemmas.{trace_keeps}
 use Rattle.office_messages.proofs.VisitLemmas.{faults_more}
 use Rattle.office_connections.specs.Clients.{AreOfClients, CameBetween, IsNextConnection, ServesClients}
 use Rattle.office_connections.specs.Clients.{ServesPlan, ServesPlanned, ServesWhileOpen}
-use Rattle.office_connections.specs.Lines.{PrintsFaults, fault_lines}
+use Rattle.office_connections.specs.Lines.{PrintsFaults, PrintsLines}
 use Rattle.office_connections.specs.declared.accepting.Service.{Service}
 use Rattle.office_connections.specs.declared.running.RunFault.{RunFault}
 use Rattle.office_connections.specs.declared.running.RunFault.TheVariants.{Listen, Shut}
-use Rattle.office_connections.proofs.LineLemmas.{more_lines}
+use Rattle.office_connections.proofs.LineLemmas.{more_lines, whole_lines}
 
 module _ {I R W : Type 0} (accepts : I → Option (R × W) → I → Type 0)
     (takes_back : I → W → I → Type 0)
@@ -124,13 +123,12 @@ module _ {S : Type 0} (Answers : S → PlainRequest → PlainReply → S → Typ
         (ended_keeps v.ended v.input v.before v.after old mid served.0 served.1 h)
 
 -- the lines of one more connection
-pub printed_more : (vs : List Visit) (v : Visit) (old mid new : Option (List ℕ))
-    → Appends old mid (fault_lines (faults_of vs))
-    → Appends mid new (fault_lines (with_fault v.ended []))
-    → Appends old new (fault_lines (faults_of (vs ++ v ∷ [])))
-printed_more vs v old mid new first more =
-    subst (λ fs. Appends old new (fault_lines fs)) (sym (faults_more vs v))
-    (more_lines (faults_of vs) (with_fault v.ended []) old mid new first more)
+pub printed_more : (vs : List Visit) (v : Visit) (n m : ℕ) (old mid new : Option (List ℕ))
+    → PrintsLines (faults_of vs) n old mid → PrintsLines (with_fault v.ended []) m mid new
+    → PrintsLines (faults_of (vs ++ v ∷ [])) (n + m) old new
+printed_more vs v n m old mid new first more =
+    subst (λ fs. PrintsLines fs (n + m) old new) (sym (faults_more vs v))
+    (more_lines (faults_of vs) (with_fault v.ended []) n m old mid new first more)
 
 one_fault : (ended : Result Served ServeFault) (fs : List ServeFault)
     → length (with_fault ended fs) ≤ length fs + 1
@@ -197,5 +195,5 @@ pub prints_faults : (AreTheirs : Bool → List Visit → Type 0) (Serve : List V
 prints_faults AreTheirs Serve service errors_old errors_new x none = (
   faults_of x.visits,
   omega (arith, few_faults x.visits, x.count),
-  x.printed none,
+  whole_lines (faults_of x.visits) service.unwritten errors_old errors_new x.printed none,
 )

@@ -1,11 +1,10 @@
 -- Clients that are served one after another.
 use Rattle.std.specs.Prelude.{◌≡◌, ℕ, ◌<◌, ◌≤◌, ◌⊎◌, Bool, false, true, List, [], ◌∷◌, length, Option}
 use Rattle.std.specs.Prelude.{None, Some, Result, IfOk, IfErr, IsTrue}
-use Rattle.std.specs.Io.KnownBytes.{Appends}
 use Rattle.office_messages.specs.Reply.{PlainReply}
 use Rattle.office_messages.specs.Stream.{PlainRequest}
 use Rattle.office_messages.specs.Visits.{ServesVisit, Visit, faults_of}
-use Rattle.office_connections.specs.Lines.{fault_lines}
+use Rattle.office_connections.specs.Lines.{PrintsLines}
 use Rattle.office_connections.specs.declared.accepting.Service.{Service}
 use Rattle.office_connections.specs.declared.running.RunFault.{RunFault}
 use Rattle.office_connections.specs.declared.running.RunFault.TheVariants.{Listen, Shut, Write}
@@ -47,7 +46,7 @@ ServesWhileOpen Answers is_shut old new (v ∷ vs) =
     × ServesWhileOpen Answers is_shut mid new vs
 
 -- clients were served, one after another, and the lines of the faults that ended connections were
--- printed, unless a line could not be written; after the last of them an accept failed, or not
+-- printed, each whole or a front of it; after the last of them an accept failed, or not
 pub record ServesClients (AreTheirs : Bool → List Visit → Type 0) (Serve : List Visit → Type 0)
     (service : Service) (errors_old errors_new : Option (List ℕ)) : Type 0 where
   pub visits : List Visit
@@ -55,7 +54,7 @@ pub record ServesClients (AreTheirs : Bool → List Visit → Type 0) (Serve : L
   pub theirs : AreTheirs has_failed visits
   pub count : length visits ≡ service.accepted
   pub served : Serve visits
-  pub printed : service.unwritten ≡ 0 → Appends errors_old errors_new (fault_lines (faults_of visits))
+  pub printed : PrintsLines (faults_of visits) service.unwritten errors_old errors_new
 
 -- the planned number of clients was served; or fewer, because an accept failed, or the machine is shut
 pub record ServesPlanned (AreTheirs : Bool → List Visit → Type 0) (Serve : List Visit → Type 0)

@@ -1,6 +1,7 @@
 -- The lines that are printed while connections are served.
-use Rattle.std.specs.Prelude.{◌≡◌, ◌≢◌, ℕ, ◌≤◌, List, [], ◌∷◌, ◌++◌, length, Option, codes, decimal}
+use Rattle.std.specs.Prelude.{◌≡◌, ◌≢◌, ℕ, ◌+◌, ◌≤◌, ◌⊎◌, List, [], ◌∷◌, ◌++◌, length, Option, codes, decimal}
 use Rattle.std.specs.Io.KnownBytes.{Appends}
+use Rattle.office_output.specs.Writing.{WritesFront}
 use Rattle.office_connections.specs.declared.listening.TheConstants.{MAX_PORT}
 use Rattle.office_messages.specs.declared.connection.ServeFault.{ServeFault}
 use Rattle.office_messages.specs.declared.connection.ServeFault.TheVariants as fault
@@ -21,6 +22,15 @@ fault_line f =
 abbrev pub fault_lines : List ServeFault → List ℕ
 fault_lines [] = []
 fault_lines (f ∷ fs) = fault_line f ++ fault_lines fs
+
+-- the line of each fault was written whole, or a front of it; so many were not written whole
+abbrev pub PrintsLines : List ServeFault → ℕ → Option (List ℕ) → Option (List ℕ) → Type 0
+PrintsLines [] unwritten old new = (unwritten ≡ 0) × (new ≡ old)
+PrintsLines (f ∷ fs) unwritten old new =
+    (mid : Option (List ℕ))
+    × ((Appends old mid (fault_line f) × PrintsLines fs unwritten mid new)
+    ⊎ ((fewer : ℕ) × (unwritten ≡ fewer + 1) × WritesFront old mid (fault_line f)
+    × PrintsLines fs fewer mid new))
 
 -- the lines of at most this many faults are printed
 abbrev pub PrintsFaults : ℕ → Option (List ℕ) → Option (List ℕ) → Type 0

@@ -1,12 +1,15 @@
 // Clients, one after another.
-ghost use Rattle.std.specs.Prelude.{◌≡◌, [], IfNone, IfSome, IsTrue, None, OnOk};
+ghost use Rattle.std.specs.Prelude.{◌≡◌, [], IfNone, IfSome, None, not, OnErr, OnOk};
+ghost use Rattle.std.specs.Int.{from_bool};
 ghost use Rattle.std.specs.Io.KnownBytes.{Appends};
 ghost use Rattle.office_messages.specs.Visits.{ServesVisit, Visit, with_fault};
-ghost use Rattle.office_connections.specs.Lines.{connection_fault_number, fault_line, fault_lines};
+ghost use Rattle.office_output.specs.Writing.{WritesFront};
+ghost use Rattle.office_connections.specs.Lines.{PrintsLines, connection_fault_number, fault_line};
 ghost use Rattle.office_connections.specs.Clients.{AreOfClients, IsNextConnection, ServesPlanned};
 ghost use Rattle.office_connections.specs.Clients.{ServesWhileOpen};
 
 use crate::clients::Clients;
+use crate::lines::write_numbered;
 use crate::serving::answer_client;
 use crate::shutting::MayShut;
 use crate::timed::Timed;
@@ -90,8 +93,8 @@ fn accept_next<
         × IsNextConnection I.accepts I.takes_back R.remaining W.contents
         clients.old visit clients.new
         × ServesVisit M.Answers visit machine.old machine.new
-        × (IsTrue is_err_written → Appends (E.contents err.old) (E.contents err.new)
-        (fault_lines (with_fault visit.ended [])))) }
+        × PrintsLines (with_fault visit.ended []) (from_bool (not is_err_written))
+        (E.contents err.old) (E.contents err.new)) }
     ensures none { IfNone result (I.accepts clients.old None clients.new
         × (machine.new ≡ machine.old) × (err.new ≡ err.old)) }
 {
@@ -106,11 +109,16 @@ fn accept_next<
 
 // Prints the line of a fault.
 fn print_fault<W: Write>(fault: ServeFault, err: &mut W) -> io::Result<()>
-    ensures { OnOk result
+    ensures ok { OnOk result
         (Appends (W.contents err.old) (W.contents err.new) (fault_line fault)) }
+    ensures err { OnErr result
+        (WritesFront (W.contents err.old) (W.contents err.new) (fault_line fault)) }
 {
-    let number = number_of(fault);
-    writeln!(err, "examoffice: connection fault {number}")
+    write_numbered(
+        err,
+        "examoffice: connection fault ",
+        u16::from(number_of(fault)),
+    )
 }
 
 // Returns the number that is printed for a fault.

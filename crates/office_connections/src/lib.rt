@@ -3,6 +3,7 @@
 
 mod accepting;
 mod clients;
+mod lines;
 mod listening;
 mod pace;
 mod paced;

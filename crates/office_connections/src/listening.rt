@@ -1,9 +1,11 @@
 // The port, and the clients that connect to it.
-ghost use Rattle.std.specs.Prelude.{ℕ, IfErr, IfOk, None, OnOk, Option, Some};
+ghost use Rattle.std.specs.Prelude.{ℕ, IfErr, IfOk, None, OnErr, OnOk, Option, Some};
 ghost use Rattle.std.specs.Io.KnownBytes.{Appends};
+ghost use Rattle.office_output.specs.Writing.{WritesFront};
 ghost use Rattle.office_connections.specs.Lines.{IsPortOf, listening_line};
 
 use crate::clients::Clients;
+use crate::lines::write_numbered;
 use std::io;
 use std::io::Write;
 use std::net::{Ipv4Addr, SocketAddr, TcpListener, TcpStream};
@@ -103,9 +105,11 @@ impl Ports for &HostRuntime {
 
 /// Prints `listening 127.0.0.1:PORT` and flushes.
 pub fn announce<W: Write>(port: u16, out: &mut W) -> io::Result<()>
-    ensures { OnOk result
+    ensures ok { OnOk result
         (Appends (W.contents out.old) (W.contents out.new) (listening_line port)) }
+    ensures err { OnErr result
+        (WritesFront (W.contents out.old) (W.contents out.new) (listening_line port)) }
 {
-    writeln!(out, "listening 127.0.0.1:{port}")?;
+    write_numbered(out, "listening 127.0.0.1:", port)?;
     out.flush()
 }

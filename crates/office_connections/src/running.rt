@@ -1,6 +1,7 @@
 // The run of a server.
 ghost use Rattle.std.specs.Prelude.{◌≡◌, ◌≢◌, ◌<◌, ◌≤◌, IfErr, IfOk};
 ghost use Rattle.std.specs.Io.KnownBytes.{Appends};
+ghost use Rattle.office_output.specs.Writing.{WritesFront};
 ghost use Rattle.office_connections.specs.Lines.{listening_line};
 ghost use Rattle.office_connections.specs.Clients.{AreOfClients, ServesPlan, ServesWhileOpen};
 
@@ -55,6 +56,9 @@ pub fn announce_and_accept<
         (listening_line port)) }
     ensures unaccepted { IfErr result (λ fault. fault ≢ RunFault.Write
         → Appends (O.contents out.old) (O.contents out.new) (listening_line port)) }
+    // If the line of the port could not be written, a front of it was.
+    ensures front { IfErr result (λ fault. fault ≡ RunFault.Write
+        → WritesFront (O.contents out.old) (O.contents out.new) (listening_line port)) }
     ensures unserved { IfErr result (λ fault. fault ≡ RunFault.Write
         → (machine.new ≡ machine.old) × (err.new ≡ err.old)) }
 {

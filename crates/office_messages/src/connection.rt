@@ -267,6 +267,8 @@ fn receive<R: Read>(
     ensures spent { IfErr result (λ fault. fault ≡ ServeFault.TooMany → turns.old ≡ 0) }
     ensures kept { turns.new ≤ turns.old }
     ensures err { IfErr result (λ fault. fault ≢ ServeFault.Write) }
+    // Memory runs out before anything is read.
+    ensures unread { IfErr result (λ fault. fault ≡ ServeFault.NoMemory → reader.new ≡ reader.old) }
 {
     if *turns == 0 {
         return Err(ServeFault::TooMany);

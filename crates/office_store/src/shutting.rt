@@ -1,5 +1,5 @@
 // Whether a disk failure has closed the store.
-ghost use Rattle.std.specs.Prelude.{◌≡◌, IfErr, IfOk, MatchBool, None, Some};
+ghost use Rattle.std.specs.Prelude.{◌≡◌, ◌≢◌, IfErr, IfOk, MatchBool, None, Some};
 ghost use Rattle.sqlite.specs.Held.{state};
 ghost use Rattle.sqlite.specs.State.{HasCleanDisk};
 ghost use Rattle.office_store.specs.Leaving.{LeavesAsItWas};
@@ -31,6 +31,9 @@ fn is_shut_by(refused: Option<Error>) -> Result<bool, StoreFault>
     ensures shut { IfOk result (λ is_shut. MatchBool is_shut
         (refused ≡ Some (Error.SqliteFailure ErrorCode.Closed)) (refused ≡ None)) }
     ensures fault { IfErr result (λ e. e ≡ StoreFault.Store) }
+    // A statement that ran, or was refused because the store is closed, says whether it is.
+    ensures unknown { IfErr result (λ _.
+        (refused ≢ None) × (refused ≢ Some (Error.SqliteFailure ErrorCode.Closed))) }
 {
     match refused {
         None => Ok(false),

@@ -1,8 +1,9 @@
 use Rattle.std.proofs.Common.{◌++◌, ◌∷◌, [], arith, false, length-append, refl, rules, subst, sym}
-use Rattle.std.proofs.KnownBytes.{Appends-nil}
+use Rattle.office_messages.specs.Visits.{with_fault}
 use Rattle.office_connections.specs.Clients.{AreOfClients, ServesPlanned, ServesWhileOpen}
+use Rattle.office_connections.specs.Lines.{PrintsLines}
 use Rattle.office_connections.proofs.ClientLemmas.{all_accepted, came_more, last_failed, open_more, printed_more}
-use Rattle.office_connections.proofs.LineLemmas.{counted, uncounted}
+use Rattle.office_connections.proofs.LineLemmas.{counted}
 use Rattle.office_connections.proofs.accepting.accept_all.Goals as goal
 
 pub loop-service-init : goal.loop-service-init
@@ -15,7 +16,7 @@ loop-service-init g c = record {
     theirs = refl;
     count = refl;
     served = refl;
-    printed = λ none. Appends-nil _;
+    printed = (refl, refl);
   };
 }
 
@@ -35,8 +36,10 @@ loop-service-preserved g c =
         count = omega (arith, length-append so_far.visits (next.0 ∷ []), so_far.count);
         served = open_more g.M.Machine.Answers g.M.MayShut.is_shut so_far.visits next.0 _ _ _
             so_far.served (search rules) next.2;
-        printed = λ none. printed_more so_far.visits next.0 _ _ _ (so_far.printed (omega arith))
-            (next.3 (uncounted _ _ c.from.ensures (omega arith)));
+        printed = printed_more so_far.visits next.0 _ _ _ _ _ so_far.printed
+            (subst (λ n. PrintsLines (with_fault next.0.ended []) n
+            (g.E.Write.contents c.loop-service.err) (g.E.Write.contents c.accept_next.new.err))
+            (sym c.from.ensures) next.3);
       };
     }
 

@@ -1,8 +1,8 @@
 use Rattle.std.proofs.Common.{[], refl, subst, sym}
-use Rattle.std.specs.Io.KnownBytes.{Appends}
-use Rattle.std.proofs.KnownBytes.{Appends-nil}
+use Rattle.std.specs.Int.{from_bool}
+use Rattle.std.specs.Prelude.{not}
 use Rattle.office_messages.specs.Visits.{with_fault}
-use Rattle.office_connections.specs.Lines.{fault_lines}
+use Rattle.office_connections.specs.Lines.{PrintsLines}
 use Rattle.office_connections.proofs.LineLemmas.{one_line}
 use Rattle.office_connections.proofs.accepting.accept_next.Goals as goal
 
@@ -31,9 +31,8 @@ returns-in-Ok g c =
           after = refl;
         },
         (served.ensures.ok, served.ensures.err),
-        λ trace. subst (λ ended. Appends (g.E.Write.contents c.args.err.now)
-            (g.E.Write.contents c.args.err.now) (fault_lines (with_fault ended [])))
-            (sym c.in-Ok.is) (Appends-nil _),
+        subst (λ ended. PrintsLines (with_fault ended []) 0 (g.E.Write.contents c.args.err.now)
+            (g.E.Write.contents c.args.err.now)) (sym c.in-Ok.is) (refl, refl),
       );
       none = tt;
     }
@@ -63,10 +62,11 @@ returns-in-Err g c =
           after = refl;
         },
         (served.ensures.ok, served.ensures.err),
-        λ trace. subst (λ ended. Appends (g.E.Write.contents c.args.err.now)
-            (g.E.Write.contents c.print_fault.new.err) (fault_lines (with_fault ended [])))
+        subst (λ ended. PrintsLines (with_fault ended []) (from_bool (not c.is_ok.result))
+            (g.E.Write.contents c.args.err.now) (g.E.Write.contents c.print_fault.new.err))
             (sym c.in-Err.is)
-            (one_line _ _ _ _ c.print_fault.ensures _ c.is_ok.ensures.value trace),
+            (one_line _ _ _ _ c.print_fault.ensures.ok c.print_fault.ensures.err _
+            c.is_ok.ensures.value),
       );
       none = tt;
     }

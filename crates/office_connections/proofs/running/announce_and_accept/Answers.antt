@@ -1,5 +1,4 @@
 use Rattle.std.proofs.Common.{[], arith, false, inl, refl, rules}
-use Rattle.std.proofs.KnownBytes.{Appends-nil}
 use Rattle.office_connections.proofs.ClientLemmas.{ran, ran_shut}
 use Rattle.office_connections.proofs.running.announce_and_accept.Goals as goal
 
@@ -14,7 +13,7 @@ returns-then-is_err-clause-served g c = record {
     theirs = refl;
     count = refl;
     served = refl;
-    printed = λ none. Appends-nil _;
+    printed = (refl, refl);
   };
   all = tt;
   fewer = inl (refl, refl, refl);
