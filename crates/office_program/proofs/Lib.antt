@@ -1,6 +1,7 @@
 pub mod LoadFacts
 pub mod NumberLemmas
 mod ServeFacts
+pub mod ServerFacts
 mod ShelfFacts
 pub mod WordFacts
 mod SourceFacts

@@ -3,7 +3,6 @@ use Rattle.std.proofs.Common.{◌≡◌, ◌≢◌, ◌⊎◌, ◌∙◌, ℕ, B
 use Rattle.std.proofs.Common.{Some, Result, Ok, Err, IfErr, IfOk, IsTrue, arith, inl, inr, refl, subst, sym}
 use Rattle.std.proofs.lemmas.List.Elements.{All-nil}
 use Rattle.std.specs.Io.KnownBytes.{Appends, Keeps}
-use Rattle.std.proofs.KnownBytes.{Appends-nil}
 use Rattle.exam_lists.proofs.Booleans.{MatchBool_true}
 use Rattle.sqlite.specs.Held.{Held, state}
 use Rattle.sqlite.specs.Store.{Ghosts}
@@ -29,7 +28,8 @@ use Rattle.office_store.specs.Leaving.{LeavesAsItWas}
 use Rattle.office_store.specs.Running.{IsCommitted}
 use Rattle.office_store.proofs.LeavingLemmas.{survives_same}
 use Rattle.office_store.proofs.RunLemmas.{now_still}
-use Rattle.office_program.specs.Serve.{AreOfPort, AsksWhetherShut, IsStoreShut, LeavesPort}
+use Rattle.office_program.specs.Serve.{AreOfPort, AsksWhetherShut, IsStoreShut, IsUnserved, LeavesPort}
+use Rattle.office_output.specs.Writing.{WritesFront}
 use Rattle.office_program.specs.Serve.{OfficeServes}
 use Rattle.office_program.specs.Serve.{PrintsServed, SaysWhetherShut, ServesTerms, is_said_shut}
 use Rattle.office_program.specs.declared.ending.Ending.{Ending}
@@ -53,11 +53,10 @@ desk_serves_nobody store desk = record {
 
 module _ (AreTheirs : Bool → List Visit → Type 0) (Serve : List Visit → Type 0)
     (IsClosed : Type 0) (terms : Terms) (errors : Option (List ℕ)) where
-  -- no client was served, because of another fault than of listening
-  pub serves_nobody : AreTheirs false [] → Serve [] → (shown : ProgramFault)
-      → shown ≢ CannotListen
+  -- no client was served, because memory ran out, or the port could not be printed
+  pub serves_nobody : AreTheirs false [] → Serve [] → (shown : ProgramFault) → IsUnserved shown
       → ServesTerms AreTheirs Serve IsClosed terms (Err shown) errors errors
-  serves_nobody theirs served shown other = record {
+  serves_nobody theirs served shown unserved = record {
     service = record { accepted = 0; unwritten = 0 };
     most = omega arith;
     serves = record {
@@ -66,10 +65,10 @@ module _ (AreTheirs : Bool → List Visit → Type 0) (Serve : List Visit → Ty
       theirs = theirs;
       count = refl;
       served = served;
-      printed = λ none. Appends-nil errors;
+      printed = (refl, refl);
     };
     all = tt;
-    fewer = inl (other, refl, refl);
+    fewer = inl (unserved, refl, refl);
   }
 
   -- no client was served, because listening failed
@@ -84,7 +83,7 @@ module _ (AreTheirs : Bool → List Visit → Type 0) (Serve : List Visit → Ty
       theirs = theirs;
       count = refl;
       served = served;
-      printed = λ none. Appends-nil errors;
+      printed = (refl, refl);
     };
     all = tt;
     fewer = inr (inl (refl, refl, inl refl));
@@ -143,15 +142,10 @@ pub came_to : {N I R W : Type 0} (opens : N → Option I → N → Type 0) (clos
     → AreOfPort opens closes accepts takes_back remaining contents old new has_failed visits
 came_to opens closes accepts takes_back remaining contents old during new first last opened closed
     false visits theirs =
-    inr (record { first = first; during = during; opened = opened; last = last; theirs = theirs; closed = closed })
+    record { first = first; during = during; opened = opened; last = last; theirs = theirs; closed = closed }
 came_to opens closes accepts takes_back remaining contents old during new first last opened closed
     true visits theirs =
     inr (record { first = first; during = during; opened = opened; last = last; theirs = theirs; closed = closed })
-
--- a fault of writing is none of listening
-pub write_is_no_listen : (shown : ProgramFault) → shown ≡ CannotWrite → shown ≢ CannotListen
-write_is_no_listen shown write listen =
-    let never : CannotWrite ≡ CannotListen = sym write ∙ listen in cc
 
 module _ {S : Type 0} (store : Ghosts S) where
   -- a request that was answered is still answered after the check of the store
@@ -295,14 +289,18 @@ prints_served AreTheirs Serve IsClosed terms port is (Ok ending) before after er
           (x.all.2 err_line));
     }
 
--- after a fault other than of writing, `out` is unchanged, or the port was printed
+-- what a fault leaves of the port's line
 pub leaves_port : (terms : Terms) (port : ℕ) → IsPortOf terms.port port
     → (outcome : Result Ending ProgramFault) (before after : Option (List ℕ))
     → IfErr outcome (λ shown. shown ≢ CannotWrite
     → Keeps before after ⊎ Appends before after (listening_line port))
+    → IfErr outcome (λ shown. shown ≡ CannotWrite → WritesFront before after (listening_line port))
     → IfErr outcome (LeavesPort terms before after)
-leaves_port terms port is (Ok ending) before after kept = tt
-leaves_port terms port is (Err shown) before after kept = λ other. elim (kept other) [
-  | inl same ↦ inl same
-  | inr line ↦ inr (port, is, line)
-]
+leaves_port terms port is (Ok ending) before after kept front = tt
+leaves_port terms port is (Err shown) before after kept front = record {
+  other = λ other. elim (kept other) [
+    | inl same ↦ inl same
+    | inr line ↦ inr (port, is, line)
+  ];
+  front = λ write. (port, is, front write);
+}

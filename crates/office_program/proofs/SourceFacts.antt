@@ -12,7 +12,7 @@ use Rattle.office_check.specs.declared.checking.CheckFault.{CheckFault}
 use Rattle.office_check.specs.declared.checking.CheckFault.TheVariants as check
 use Rattle.office_check.specs.declared.judging.LineForm.{LineForm}
 use Rattle.office_program.specs.CheckAll.{IsLineOf}
-use Rattle.office_program.specs.Sources.{IsReaderOf, IsTextOf, Known, MayNotOpen, OfFiles, file_at, is_stdin, source_at}
+use Rattle.office_program.specs.Sources.{IsReaderOf, IsTextOf, Known, MayNotOpen, OfFiles, is_stdin, source_at}
 use Rattle.office_program.specs.TaskFaults.{MayNotRead}
 use Rattle.office_program.specs.declared.judging.VerdictLine.{VerdictLine}
 
@@ -68,18 +68,6 @@ pub own_text : (known : Known) (left : Option (List ℕ)) → IsReaderOf known l
     → (text : List ℕ) → IsTextOf (option_map Some left) text → IsTextOf known text
 own_text known None reads text of = read_text known None reads text tt
 own_text known (Some xs) reads text of = read_text known (Some xs) reads text of
-
--- `-` among solutions names no file
-pub no_file : (files : List ℕ → Known) (path : List ℕ) → is_stdin path ≡ true
-    → (text : List ℕ) → IsTextOf (file_at files path) text
-no_file files path is text = subst (λ known. IsTextOf known text)
-    (sym (ap (λ (b : Bool). if b then None else files path) is)) tt
-
--- another path names a file
-pub a_file : (files : List ℕ → Known) (path : List ℕ) → is_stdin path ≡ false
-    → (left : Option (List ℕ)) → IsReaderOf (files path) left → IsReaderOf (file_at files path) left
-a_file files path is left reads = subst (λ known. IsReaderOf known left)
-    (sym (ap (λ (b : Bool). if b then None else files path) is)) reads
 
 -- the line of a verdict on the text of a file, of which less is known
 pub line_less : (I : Session) (E : Enrolled) (form : LineForm) (path : List ℕ) (a b : Known)

@@ -1,5 +1,5 @@
 -- The output of `check-all`: a line for each solution that is judged, and one for each fault.
-use Rattle.std.specs.Prelude.{◌≡◌, ◌≢◌, ◌⊎◌, ◌++◌, ◌∷◌, [], ℕ, ◌==◌, Bool, true, false, not, All, List}
+use Rattle.std.specs.Prelude.{◌≡◌, ◌≢◌, ◌⊎◌, ◌++◌, ◌∷◌, [], ℕ, ◌==◌, Bool, true, false, not, List}
 use Rattle.std.specs.Prelude.{MatchBool, None, Option, Some, codes, if◌then◌else◌, length, map, string_bytes, ◌&&◌, ◌||◌}
 use Rattle.std.specs.List.{flat_map, list_any}
 use Rattle.std.specs.Io.KnownBytes.{Appends}
@@ -14,8 +14,9 @@ use Rattle.office_check.specs.Names.{printed_name}
 use Rattle.office_check.specs.Verdicts.{IsVerdictOn, verdict_line}
 use Rattle.office_check.specs.declared.judging.LineForm.{LineForm}
 use Rattle.office_check.specs.declared.judging.Verdict.{Verdict}
+use Rattle.office_output.specs.Writing.{WritesFront}
 use Rattle.office_program.specs.FaultLines.{solution_line}
-use Rattle.office_program.specs.Sources.{IsTextOf, Known}
+use Rattle.office_program.specs.Sources.{IsFile, IsTextOf, Known, source_at}
 use Rattle.office_program.specs.declared.judging.Found.{Found}
 use Rattle.office_program.specs.declared.judging.VerdictLine.{VerdictLine}
 
@@ -72,27 +73,39 @@ abbrev pub status_of_all : Bool → Bool → ℕ
 status_of_all has_fault has_breach =
     if has_fault then 1 else (if has_breach then 3 else 0)
 
+-- each has its outcome by what is left of standard input when its turn comes, which only a solution
+-- of the path `-` takes from
+abbrev pub ReadsEach : Session → Enrolled → (List ℕ → Known) → LineForm → List Outcome
+    → (stdin last : Option (List ℕ)) → Type 0
+ReadsEach I E files form [] stdin last = last ≡ stdin
+ReadsEach I E files form (o ∷ os) stdin last =
+    (left : Option (List ℕ)) × IsOutcome I E (source_at stdin files) form o
+    × (IsFile o.path → left ≡ stdin) × ReadsEach I E files form os left last
+
 -- each solution has its outcome, in order
 pub record AreJudged (I : Session) (E : Enrolled) (files : List ℕ → Known) (form : LineForm)
-    (paths : List (List ℕ)) (outcomes : List Outcome) : Type 0 where
+    (paths : List (List ℕ)) (stdin last : Option (List ℕ)) (outcomes : List Outcome) : Type 0 where
   pub are : map (λ o. o.path) outcomes ≡ paths
-  pub each : All (IsOutcome I E files form) outcomes
+  pub each : ReadsEach I E files form outcomes stdin last
 
--- the text of a file is that of a session, and the solutions of these paths have these outcomes by it
-pub record AreBySession (first : Known) (files : List ℕ → Known) (form : LineForm)
-    (paths : List (List ℕ)) (outcomes : List Outcome) : Type 0 where
+-- the text of the session's path is that of a session, and the solutions of these paths have these
+-- outcomes by it
+pub record AreBySession (path : List ℕ) (files : List ℕ → Known) (form : LineForm)
+    (paths : List (List ℕ)) (stdin last : Option (List ℕ)) (outcomes : List Outcome) : Type 0 where
   pub text : List ℕ
-  pub of : IsTextOf first text
+  pub of : IsTextOf (source_at stdin files path) text
   pub session : Session
   pub enrolled : Enrolled
   pub read : InstanceText text session enrolled
-  pub judged : AreJudged session enrolled files form paths outcomes
+  pub left : Option (List ℕ)
+  pub unread : IsFile path → left ≡ stdin
+  pub judged : AreJudged session enrolled files form paths left last outcomes
 
 -- the line of each solution without a fault is printed, and this is the status
-pub record PrintsVerdicts (first : Known) (files : List ℕ → Known) (form : LineForm)
-    (paths : List (List ℕ)) (old new : Option (List ℕ)) (status : ℕ) : Type 0 where
+pub record PrintsVerdicts (path : List ℕ) (files : List ℕ → Known) (form : LineForm)
+    (paths : List (List ℕ)) (stdin last old new : Option (List ℕ)) (status : ℕ) : Type 0 where
   pub outcomes : List Outcome
-  pub judged : AreBySession first files form paths outcomes
+  pub judged : AreBySession path files form paths stdin last outcomes
   pub printed : Appends old new (flat_map (λ o. o.printed) outcomes)
   pub ended : status ≡ status_of_all (list_any (λ o. o.is_faulty) outcomes)
       (list_any (λ o. o.has_breach) outcomes)
@@ -112,10 +125,11 @@ TellsAll {W} tells (o ∷ os) old are_written new =
     × TellsAll tells os mid others new × (are_written ≡ (first && others))
 
 -- and the line of each fault is written, unless its writer failed
-pub record JudgesAll {W : Type 0} (tells : W → List ℕ → Bool → W → Type 0) (first : Known)
-    (files : List ℕ → Known) (form : LineForm) (paths : List (List ℕ)) (old new : Option (List ℕ))
-    (errors_old errors_new : W) (is_err_written : Bool) (status : ℕ) : Type 0 where
-  pub prints : PrintsVerdicts first files form paths old new status
+pub record JudgesAll {W : Type 0} (tells : W → List ℕ → Bool → W → Type 0) (path : List ℕ)
+    (files : List ℕ → Known) (form : LineForm) (paths : List (List ℕ))
+    (stdin last old new : Option (List ℕ)) (errors_old errors_new : W) (is_err_written : Bool)
+    (status : ℕ) : Type 0 where
+  pub prints : PrintsVerdicts path files form paths stdin last old new status
   pub told : TellsAll tells prints.outcomes errors_old is_err_written errors_new
 
 -- ---- one solution after another
@@ -133,10 +147,12 @@ pub record IsLineOf (I : Session) (E : Enrolled) (form : LineForm) (path : List 
 -- the solution of this path has an outcome, which is counted
 pub record AddsOutcome {W : Type 0} (tells : W → List ℕ → Bool → W → Type 0) (I : Session)
     (E : Enrolled) (files : List ℕ → Known) (form : LineForm) (path : List ℕ) (before : Found)
-    (old new : Option (List ℕ)) (errors_old errors_new : W) (after : Found) : Type 0 where
+    (stdin last old new : Option (List ℕ)) (errors_old errors_new : W) (after : Found)
+    : Type 0 where
   pub outcome : Outcome
   pub is : outcome.path ≡ path
-  pub of : IsOutcome I E files form outcome
+  pub of : IsOutcome I E (source_at stdin files) form outcome
+  pub unread : IsFile outcome.path → last ≡ stdin
   pub printed : Appends old new outcome.printed
   pub is_written : Bool
   pub told : TellsOne tells outcome errors_old is_written errors_new
@@ -147,10 +163,48 @@ pub record AddsOutcome {W : Type 0} (tells : W → List ℕ → Bool → W → T
 -- the solutions of these paths have outcomes, which are counted
 pub record HasOutcomes {W : Type 0} (tells : W → List ℕ → Bool → W → Type 0) (I : Session)
     (E : Enrolled) (files : List ℕ → Known) (form : LineForm) (paths : List (List ℕ))
-    (old new : Option (List ℕ)) (errors_old errors_new : W) (found : Found) : Type 0 where
+    (stdin last old new : Option (List ℕ)) (errors_old errors_new : W) (found : Found)
+    : Type 0 where
   pub outcomes : List Outcome
-  pub judged : AreJudged I E files form paths outcomes
+  pub judged : AreJudged I E files form paths stdin last outcomes
   pub printed : Appends old new (flat_map (λ o. o.printed) outcomes)
   pub told : TellsAll tells outcomes errors_old found.is_err_written errors_new
   pub fault : found.has_fault ≡ list_any (λ o. o.is_faulty) outcomes
   pub breach : found.has_breach ≡ list_any (λ o. o.has_breach) outcomes
+
+-- ---- a line that could not be written
+
+-- of the line of the solution of this path a front was printed
+pub record StopsAt (I : Session) (E : Enrolled) (files : List ℕ → Known) (form : LineForm)
+    (path : List ℕ) (stdin old new : Option (List ℕ)) : Type 0 where
+  pub line : VerdictLine
+  pub of : IsLineOf I E form path (source_at stdin files path) line
+  pub printed : WritesFront old new (string_bytes line.text)
+
+-- the first of these solutions have outcomes, and of the line of the next one a front was printed
+pub record StopsAmong {W : Type 0} (tells : W → List ℕ → Bool → W → Type 0) (I : Session)
+    (E : Enrolled) (files : List ℕ → Known) (form : LineForm) (paths : List (List ℕ))
+    (stdin old new : Option (List ℕ)) (errors_old errors_new : W) : Type 0 where
+  pub before : List (List ℕ)
+  pub path : List ℕ
+  pub behind : List (List ℕ)
+  pub whole : paths ≡ before ++ path ∷ behind
+  pub found : Found
+  pub left : Option (List ℕ)
+  pub printed : Option (List ℕ)
+  pub outcomes : HasOutcomes tells I E files form before stdin left old printed errors_old errors_new
+      found
+  pub stops : StopsAt I E files form path left printed new
+
+-- the same, by the text of the session of this path
+pub record StopsAll {W : Type 0} (tells : W → List ℕ → Bool → W → Type 0) (session : List ℕ)
+    (files : List ℕ → Known) (form : LineForm) (paths : List (List ℕ))
+    (stdin old new : Option (List ℕ)) (errors_old errors_new : W) : Type 0 where
+  pub text : List ℕ
+  pub of : IsTextOf (source_at stdin files session) text
+  pub instance : Session
+  pub enrolled : Enrolled
+  pub read : InstanceText text instance enrolled
+  pub left : Option (List ℕ)
+  pub unread : IsFile session → left ≡ stdin
+  pub stops : StopsAmong tells instance enrolled files form paths left old new errors_old errors_new

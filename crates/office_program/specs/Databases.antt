@@ -1,6 +1,6 @@
 -- What is known of the database at a path, and what a task makes of it.
-use Rattle.std.specs.Prelude.{◌≡◌, ◌≢◌, ◌⊎◌, Bool, IfErr, IfOk, IsTrue, List, None, Option, Result, Ok, Err, Some}
-use Rattle.std.specs.Prelude.{[], false, ℕ}
+use Rattle.std.specs.Prelude.{◌≡◌, ◌≢◌, ◌⊎◌, Bool, IsTrue, List, None, Option, Result, Ok, Err, Some}
+use Rattle.std.specs.Prelude.{ℕ}
 use Rattle.sqlite.specs.Held.{Held, state}
 use Rattle.sqlite.specs.State.{HasCleanDisk, Survives}
 use Rattle.sqlite.specs.Store.{Ghosts}
@@ -8,15 +8,14 @@ use Rattle.sqlite.specs.declared.error.Error.{Error}
 use Rattle.office_messages.specs.Visits.{Visit}
 use Rattle.office_files.specs.declared.inputs.InputFault.{InputFault}
 use Rattle.office_model.specs.Office.{OfficeState}
-use Rattle.office_model.specs.declared.fault.StoreFault.{StoreFault}
 use Rattle.office_model.specs.declared.fault.StoreFault.TheVariants.{BadSchema}
 use Rattle.office_store.specs.Opening.{HoldsOffice, IsOfficeOf}
 use Rattle.office_program.specs.Export.{Exports, IfRead, RefusesExport}
 use Rattle.office_program.specs.FaultLines.{fault_line, input_line, open_line}
-use Rattle.office_program.specs.Foreign.{HasNone, LeavesForeign, LeavesIfForeign, OfOffice}
+use Rattle.office_program.specs.Foreign.{LeavesIfForeign, OfOffice}
 use Rattle.office_program.specs.Load.{IfRefused, IfStored, Loads, MayBringUp, MayLoad, MayUpgrade}
 use Rattle.office_program.specs.Load.{RefusesLoad}
-use Rattle.office_program.specs.Serve.{FileServes, IsStoreShut, ServesTerms}
+use Rattle.office_program.specs.Serve.{IsOpened, IsStoreShut, IsUnopened, OfficeServes, ServesTerms}
 use Rattle.office_program.specs.Sources.{Known}
 use Rattle.office_program.specs.TaskFaults.{IsTextCause, export_line, load_line}
 use Rattle.office_program.specs.declared.ending.Ending.{Ending}
@@ -99,33 +98,39 @@ module _ {S : Type 0} (store : Ghosts S) where
       → OfOffice (HoldsOffice (state store before).now)
       (λ there. Exports there (state store after) printed_old printed_new)
 
-  -- the office in a database served as many of these clients as the terms say, or the fault says
-  -- why not; the database represents the office that they led to. Assuming the disk returns what
-  -- was written: if all were served, it held an office; tables of others stay
-  pub record ServesIn (AreTheirs : Bool → List Visit → Type 0) (terms : Terms)
+  -- the office of a database was opened, and served as many of these clients as the terms say, or
+  -- the fault says why not
+  pub record ServesOpened (AreTheirs : Bool → List Visit → Type 0) (terms : Terms)
       (errors_old errors_new : Option (List ℕ)) (outcome : Result Ending ProgramFault)
       (before after : Held S) : Type 0 where
-    pub clients : ServesTerms AreTheirs (FileServes store before after) (IsStoreShut store after)
+    pub found : Held S
+    pub opened : IsOpened store before found
+    pub clients : ServesTerms AreTheirs (OfficeServes store found after) (IsStoreShut store after)
         terms outcome errors_old errors_new
-    pub stood : IfOk outcome (λ _. HasCleanDisk (state store after)
-        → (there : OfficeState) × IsOfficeOf (state store before).now there)
-    pub foreign : IfErr outcome (λ shown. HasCleanDisk (state store after)
-        → HasNone IsOfficeOf (state store before).now
-        → (of : StoreFault) × (shown ≡ fault.Store of) × LeavesForeign store before after of)
+
+  -- the same; or the office could not be opened, and no port was listened on
+  abbrev pub ServesIn : (IsUnheard : Type 0) → (AreTheirs : Bool → List Visit → Type 0) → Terms
+      → (errors_old errors_new : Option (List ℕ)) → Result Ending ProgramFault
+      → (before after : Held S) → Type 0
+  ServesIn IsUnheard AreTheirs terms errors_old errors_new (Ok ending) before after =
+      ServesOpened AreTheirs terms errors_old errors_new (Ok ending) before after
+  ServesIn IsUnheard AreTheirs terms errors_old errors_new (Err shown) before after =
+      (IsUnopened store before after shown × IsUnheard × (errors_new ≡ errors_old))
+      ⊎ ServesOpened AreTheirs terms errors_old errors_new (Err shown) before after
 
   -- the database at a path was opened, and given back after its office served the clients of the
-  -- port of the terms; or the fault is that it could not be opened
-  abbrev pub ServesNamed : (old new : List ℕ → KnownBase (Held S))
+  -- port of the terms, or after it could not be opened; or the fault is that of the database, and
+  -- no port was listened on
+  abbrev pub ServesNamed : (old new : List ℕ → KnownBase (Held S)) → (IsUnheard : Type 0)
       → (ℕ → Bool → List Visit → Type 0) → (errors_old errors_new : Option (List ℕ))
       → Result Ending ProgramFault → List ℕ → Terms → Type 0
-  ServesNamed old new AreOf errors_old errors_new (Ok ending) database terms =
+  ServesNamed old new IsUnheard AreOf errors_old errors_new (Ok ending) database terms =
       UsesDatabase old new database
-      (ServesIn (AreOf terms.port) terms errors_old errors_new (Ok ending))
-  ServesNamed old new AreOf errors_old errors_new (Err shown) database terms =
-      (FailsToOpen old new database shown × (shown ≢ CannotListen) × (errors_new ≡ errors_old)
-      × AreOf terms.port false [])
+      (ServesIn IsUnheard (AreOf terms.port) terms errors_old errors_new (Ok ending))
+  ServesNamed old new IsUnheard AreOf errors_old errors_new (Err shown) database terms =
+      (FailsToOpen old new database shown × IsUnheard × (errors_new ≡ errors_old))
       ⊎ UsesDatabase old new database
-      (ServesIn (AreOf terms.port) terms errors_old errors_new (Err shown))
+      (ServesIn IsUnheard (AreOf terms.port) terms errors_old errors_new (Err shown))
 
   -- a load of the text into the office of a database failed so. Assuming the disk returns what was
   -- written: the office refused it, or a statement failed, and the office is as it was if nothing

@@ -9,6 +9,7 @@ use Rattle.office_model.specs.Office.{OfficeState, Publication}
 use Rattle.office_model.specs.Step.{publication_in}
 use Rattle.office_model.specs.declared.fault.StoreFault.{StoreFault}
 use Rattle.office_model.specs.declared.fault.StoreFault.TheVariants as store
+use Rattle.office_output.specs.Writing.{WritesFront}
 use Rattle.office_store.specs.Running.{Represents}
 use Rattle.office_program.specs.declared.exporting.ExportFault.{ExportFault}
 use Rattle.office_program.specs.declared.exporting.ExportFault.TheVariants as fault
@@ -27,11 +28,12 @@ pub record Exports (office : OfficeState) (after : State) (old new : Option (Lis
   pub printed : Appends old new text
   pub represents : Represents after office
 
--- a statement failed, nothing is published, memory ran out, or the writer failed during the write
+-- a statement failed, nothing is published, memory ran out for the text of what is published, or the
+-- writer failed during the write of it
 abbrev pub RefusesExport : OfficeState → ExportFault → Type 0
 RefusesExport office (fault.Store f) = f ≡ store.Store
 RefusesExport office fault.NoPublication = published_solution office ≡ None
-RefusesExport office fault.NoMemory = Unit {0}
+RefusesExport office fault.NoMemory = IsSome (published_solution office)
 RefusesExport office fault.Write = (text : List ℕ) × (published_solution office ≡ Some text)
 
 -- a fact about the fault of the office's file, unless the office was read
@@ -54,3 +56,8 @@ IsWhole T = (1 ≤ length T) × ((e : ℕ) → e < length T → IsSome (place_of
 abbrev pub PrintsSolution : Option (List ℕ) → Option (List ℕ) → Type 0
 PrintsSolution old new =
     (T : Placing) × IsWhole T × Appends old new (canonical_solution T)
+
+-- the same, of a front of it
+abbrev pub PrintsSolutionFront : Option (List ℕ) → Option (List ℕ) → Type 0
+PrintsSolutionFront old new =
+    (T : Placing) × IsWhole T × WritesFront old new (canonical_solution T)

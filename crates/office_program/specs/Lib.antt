@@ -9,6 +9,7 @@ pub mod Export
 pub mod TaskFaults
 pub mod FaultLines
 pub mod Serve
+pub mod Servers
 pub mod LongWork
 pub mod Surroundings
 pub mod Causes

@@ -19,6 +19,7 @@ use Rattle.office_records.specs.Representation.{RepresentsOffice}
 use Rattle.office_store.specs.Opening.{DatabaseUpgraded}
 use Rattle.office_store.specs.Running.{IsCommitted, IsFault, Represents}
 use Rattle.office_model.specs.declared.counts.Loaded.{Loaded}
+use Rattle.office_output.specs.Writing.{WritesFront}
 use Rattle.office_program.specs.declared.loading.LoadFault.{LoadFault}
 use Rattle.office_program.specs.declared.loading.LoadFault.TheVariants.{Store, Write}
 
@@ -124,3 +125,8 @@ NamesTextFault text Write = Unit {0}
 abbrev pub PrintsCounts : List ℕ → Option (List ℕ) → Option (List ℕ) → Type 0
 PrintsCounts text old new =
     (counts : Loaded) × SpellsSession text counts × Appends old new (loaded_text counts)
+
+-- the same, of a front of the line
+abbrev pub PrintsCountsFront : List ℕ → Option (List ℕ) → Option (List ℕ) → Type 0
+PrintsCountsFront text old new =
+    (counts : Loaded) × SpellsSession text counts × WritesFront old new (loaded_text counts)

@@ -16,15 +16,16 @@ use Rattle.office_check.specs.Compare.{Compares}
 use Rattle.office_check.specs.Listing.{WritesPlaces}
 use Rattle.office_check.specs.declared.judging.LineForm.{LineForm}
 use Rattle.office_messages.specs.Visits.{Visit}
-use Rattle.office_program.specs.CheckAll.{JudgesAll}
+use Rattle.office_program.specs.CheckAll.{JudgesAll, StopsAll}
 use Rattle.office_program.specs.CheckForms.{PrintsForm}
 use Rattle.office_program.specs.Databases.{ExportsIn, IsUnread, LeavesUnexported, LeavesUnloaded, LoadsIn, ServesNamed, UsesDatabase}
-use Rattle.office_program.specs.Export.{PrintsSolution}
+use Rattle.office_output.specs.Writing.{WritesFront}
+use Rattle.office_program.specs.Export.{PrintsSolution, PrintsSolutionFront}
 use Rattle.office_program.specs.FaultLines.{fault_line}
-use Rattle.office_program.specs.Load.{PrintsCounts}
+use Rattle.office_program.specs.Load.{PrintsCounts, PrintsCountsFront}
 use Rattle.office_program.specs.Program.{IsMistake, IsTask, fault_of_words}
 use Rattle.office_program.specs.Serve.{LeavesPort, PrintsServed}
-use Rattle.office_program.specs.Sources.{IsTextOf, OfFiles, IsFile, OfThreeFiles, file_at, source_at}
+use Rattle.office_program.specs.Sources.{IsTextOf, OfFiles, IsFile, OfThreeFiles, source_at}
 use Rattle.office_program.specs.Tasks.{IsOfTask}
 use Rattle.office_program.specs.World.{World}
 use Rattle.office_program.specs.declared.ending.Ending.{Ending}
@@ -66,8 +67,8 @@ module _ {S N E : Type 0} (store : Ghosts S)
   -- the line of each solution without a fault is printed, and that of each other one is told
   pub record JudgesEach (session : List ℕ) (solutions : List (List ℕ)) (form : LineForm)
       (end : Ending) : Type 0 where
-    pub judged : JudgesAll told.tells (source_at old.stdin old.files session) (file_at old.files) form
-        solutions old.printed new.printed old.errors new.errors end.is_err_written end.status
+    pub judged : JudgesAll told.tells session old.files form solutions old.stdin new.stdin
+        old.printed new.printed old.errors new.errors end.is_err_written end.status
     pub rest : new ≡ record old
         { stdin = new.stdin; printed = new.printed; errors = new.errors }
 
@@ -100,7 +101,8 @@ module _ {S N E : Type 0} (store : Ghosts S)
   pub record ServesAt (database : List ℕ) (terms : Terms) (end : Ending) : Type 0 where
     pub printed : PrintsServed terms old.printed new.printed (contents old.errors)
         (contents new.errors) end
-    pub served : ServesNamed store old.databases new.databases (AreOfPort old.ports new.ports)
+    pub served : ServesNamed store old.databases new.databases
+        (new.ports ≡ old.ports) (AreOfPort old.ports new.ports)
         (contents old.errors) (contents new.errors) (Ok end) database terms
     pub rest : new ≡ record old {
       databases = new.databases;
@@ -139,9 +141,16 @@ module _ {S N E : Type 0} (store : Ghosts S)
   abbrev pub IsUnprinted : ProgramFault → Type 0
   IsUnprinted shown = shown ≢ CannotWrite → Keeps old.printed new.printed
 
-  -- `check-all` failed, and told nobody, unless it is a fault of writing
-  pub record FailsToJudgeEach (shown : ProgramFault) : Type 0 where
+  -- after a fault of writing, this front was printed
+  abbrev pub HasFront : ProgramFault → (Option (List ℕ) → Option (List ℕ) → Type 0) → Type 0
+  HasFront shown IsFront = shown ≡ CannotWrite → IsFront old.printed new.printed
+
+  -- `check-all` failed, and told nobody; or a line could not be written
+  pub record FailsToJudgeEach (session : List ℕ) (solutions : List (List ℕ)) (form : LineForm)
+      (shown : ProgramFault) : Type 0 where
     pub unprinted : IsUnprinted shown
+    pub front : HasFront shown (λ before after. StopsAll told.tells session old.files form solutions
+        old.stdin before after old.errors new.errors)
     pub untold : shown ≢ CannotWrite → new.errors ≡ old.errors
     pub rest : new ≡ record old
         { stdin = new.stdin; printed = new.printed; errors = new.errors }
@@ -149,6 +158,8 @@ module _ {S N E : Type 0} (store : Ghosts S)
   -- `load` failed: its file can't be taken, or its database is left so
   pub record FailsToLoadFile (database instance : List ℕ) (shown : ProgramFault) : Type 0 where
     pub unprinted : IsUnprinted shown
+    pub front : HasFront shown (λ before after. (text : List ℕ) × IsTextOf (old.files instance) text
+        × PrintsCountsFront text before after)
     pub left : IsUnread old.databases new.databases instance (old.files instance) shown
         ⊎ ((text : List ℕ) × IsTextOf (old.files instance) text
         × LeavesUnloaded store old.databases new.databases database text shown)
@@ -157,13 +168,15 @@ module _ {S N E : Type 0} (store : Ghosts S)
   -- `export` failed, and left its database so
   pub record FailsToExportFrom (database : List ℕ) (shown : ProgramFault) : Type 0 where
     pub unprinted : IsUnprinted shown
+    pub front : HasFront shown PrintsSolutionFront
     pub left : LeavesUnexported store old.databases new.databases database shown
     pub rest : new ≡ record old { databases = new.databases; printed = new.printed }
 
   -- `serve` failed, after it served these clients
   pub record FailsToServe (database : List ℕ) (terms : Terms) (shown : ProgramFault) : Type 0 where
     pub port : LeavesPort terms old.printed new.printed shown
-    pub served : ServesNamed store old.databases new.databases (AreOfPort old.ports new.ports)
+    pub served : ServesNamed store old.databases new.databases
+        (new.ports ≡ old.ports) (AreOfPort old.ports new.ports)
         (contents old.errors) (contents new.errors) (Err shown) database terms
     pub rest : new ≡ record old {
       databases = new.databases;
@@ -179,7 +192,7 @@ module _ {S N E : Type 0} (store : Ghosts S)
   Leaves shown (CheckAs instance solution form) =
       IsUnprinted shown × Reads (IsFile (string_bytes instance) × IsFile (string_bytes solution))
   Leaves shown (CheckAll session solutions form) =
-      FailsToJudgeEach shown
+      FailsToJudgeEach (string_bytes session) (map string_bytes solutions.items) form shown
   Leaves shown (Places instance solution exam) =
       IsUnprinted shown × Reads (IsFile (string_bytes instance) × IsFile (string_bytes solution))
   Leaves shown (Compare session before after) =
@@ -190,7 +203,9 @@ module _ {S N E : Type 0} (store : Ghosts S)
       FailsToLoadFile (string_bytes database) (string_bytes instance) shown
   Leaves shown (Serve database terms) = FailsToServe (string_bytes database) terms shown
   Leaves shown (Export database) = FailsToExportFrom (string_bytes database) shown
-  Leaves shown (Explain words) = new ≡ record old { printed = new.printed }
+  Leaves shown (Explain words) =
+      WritesFront old.printed new.printed (words.now ++ 10 ∷ [])
+      × (new ≡ record old { printed = new.printed })
 
   -- the fault is one of the task's files, database or port, or of writing
   pub record Fails (task : Task) (shown : ProgramFault) : Type 0 where

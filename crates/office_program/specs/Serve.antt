@@ -6,7 +6,8 @@ use Rattle.sqlite.specs.Held.{Held, state}
 use Rattle.sqlite.specs.State.{HasCleanDisk}
 use Rattle.sqlite.specs.Store.{Ghosts}
 use Rattle.office_connections.specs.Clients.{AreOfClients, ServesClients}
-use Rattle.office_connections.specs.Lines.{PrintsPort, PrintsFaults}
+use Rattle.office_connections.specs.Lines.{IsPortOf, PrintsPort, PrintsFaults, listening_line}
+use Rattle.office_output.specs.Writing.{WritesFront}
 use Rattle.office_connections.specs.declared.accepting.Service.{Service}
 use Rattle.office_http.specs.Clients.{ServesAllByView}
 use Rattle.office_http.specs.Replying.{Answered}
@@ -14,15 +15,16 @@ use Rattle.office_http.specs.Serving.{LeadsOffice}
 use Rattle.office_messages.specs.Visits.{ServesVisits, Visit}
 use Rattle.office_messages.specs.declared.statuses.Status.{Status}
 use Rattle.office_messages.specs.declared.statuses.Status.TheVariants.{Created, Done}
-use Rattle.office_model.specs.Office.{OfficeState}
 use Rattle.office_model.specs.declared.fault.StoreFault.{StoreFault}
 use Rattle.office_model.specs.declared.fault.StoreFault.TheVariants.{Store}
 use Rattle.office_program.specs.declared.faults.ProgramFault.{ProgramFault}
 use Rattle.office_program.specs.declared.faults.ProgramFault.TheVariants as fault
 use Rattle.office_program.specs.declared.ending.Ending.{Ending}
 use Rattle.office_program.specs.declared.words.Terms.{Terms}
+use Rattle.office_program.specs.Foreign.{HasNone, OfOffice}
+use Rattle.office_store.specs.Faults.{IsOfDatabase}
 use Rattle.office_store.specs.Opening.{IsOfficeOf}
-use Rattle.office_store.specs.Leaving.{LeavesAsItWas}
+use Rattle.office_store.specs.Leaving.{LeavesAsItWas, LeavesOpened, MayOpen}
 use Rattle.office_store.specs.Running.{IsCommitted, Represents}
 use Rattle.office_store.specs.Shut.{IsShut}
 
@@ -63,16 +65,25 @@ pub record OfficeServes {S : Type 0} (store : Ghosts S) (old new : Held S) (visi
   pub answered : ServesVisits (Answered store) visits old new
   pub leads : LeadsOffice store (ServesAllByView visits) old new
 
--- assuming the disk returns what was written: the office found in the database served these
--- connections, each candidate got the text of their view, and the database represents the office
--- that they led to, in version 2, while it is open; or nobody was served, and the database is as it
--- was, if nothing in it was uncommitted
-abbrev pub FileServes : {S : Type 0} → Ghosts S → Held S → Held S → List Visit → Type 0
-FileServes store old new visits = HasCleanDisk (state store new)
-    → (there : OfficeState) → IsOfficeOf (state store old).now there
-    → ((next : OfficeState) × ServesAllByView visits there next × Represents (state store new) next)
-    ⊎ ((visits ≡ []) × ((state store old).now ≡ (state store old).committed
-    → IsTrue (state store new).is_open → (state store new).now ≡ (state store old).now))
+-- the office that a database held was opened: the tables represent it in version 2, and all is
+-- committed, assuming the disk returns what was written; a later opening may find what it might have
+-- found before, or what opening makes of the tables
+pub record IsOpened {S : Type 0} (store : Ghosts S) (before found : Held S) : Type 0 where
+  pub holds : HasCleanDisk (state store found)
+      → OfOffice (IsOfficeOf (state store before).now) (Represents (state store found))
+  pub leaves : LeavesOpened store MayOpen before (Ok found)
+
+-- the office of a database could not be opened: a statement failed, or, assuming the disk returns
+-- what was written, it holds none; its tables are as they were, and so is what a later opening may
+-- find, but for what opening makes of the tables
+pub record IsUnopened {S : Type 0} (store : Ghosts S) (before after : Held S)
+    (shown : ProgramFault) : Type 0 where
+  pub of : StoreFault
+  pub is : shown ≡ fault.Store of
+  pub fault : IsOfDatabase of
+  pub none : HasCleanDisk (state store after)
+      → (of ≡ Store) ⊎ HasNone IsOfficeOf (state store before).now
+  pub leaves : LeavesOpened store MayOpen before (Err (of, after))
 
 module _ {N I R W : Type 0} (opens : N → Option I → N → Type 0) (closes : N → I → N → Type 0)
     (accepts : I → Option (R × W) → I → Type 0) (takes_back : I → W → I → Type 0)
@@ -87,10 +98,10 @@ module _ {N I R W : Type 0} (opens : N → Option I → N → Type 0) (closes : 
     pub theirs : AreOfClients accepts takes_back remaining contents first last has_failed visits
     pub closed : closes during last new
 
-  -- the connections are those of the clients of the port; there is none, and nothing happened to
-  -- the port, if it was not listened on, or if that failed
+  -- the connections are those of the clients of the port, of whom there is none if it could not be
+  -- listened on
   abbrev pub AreOfPort : Bool → List Visit → Type 0
-  AreOfPort false visits = ((visits ≡ []) × (new ≡ old)) ⊎ CameTo false visits
+  AreOfPort false visits = CameTo false visits
   AreOfPort true visits = (opens old None new × (visits ≡ [])) ⊎ CameTo true visits
 
 -- the connections are those of the clients of this port of the machine
@@ -101,9 +112,13 @@ abbrev pub AreOfPorts : {N I R W : Type 0} → (opens : N → ℕ → Option I �
 AreOfPorts opens closes accepts takes_back remaining contents old new port =
     AreOfPort (λ before. opens before port) closes accepts takes_back remaining contents old new
 
--- as many clients were served as the terms say; or no client was, because of another fault than of
--- listening; or fewer were, because listening or an accept failed; or the store is closed after the
--- last
+-- an opened office serves nobody if memory runs out for its routes, or the port can't be printed
+abbrev pub IsUnserved : ProgramFault → Type 0
+IsUnserved shown = (shown ≡ fault.NoMemory) ⊎ (shown ≡ fault.CannotWrite)
+
+-- as many clients were served as the terms say; or nobody was, for want of memory or because the
+-- port could not be printed; or fewer were, because listening or an accept failed; or the store is
+-- closed after the last
 pub record ServesTerms (AreTheirs : Bool → List Visit → Type 0) (Serve : List Visit → Type 0)
     (IsClosed : Type 0) (terms : Terms) (outcome : Result Ending ProgramFault)
     (errors_old errors_new : Option (List ℕ)) : Type 0 where
@@ -113,7 +128,7 @@ pub record ServesTerms (AreTheirs : Bool → List Visit → Type 0) (Serve : Lis
   pub all : IfOk outcome (λ ending. (service.accepted ≡ terms.connections)
       × (serves.has_failed ≡ false) × (IsTrue ending.is_err_written → service.unwritten ≡ 0))
   pub fewer : IfErr outcome (λ shown.
-      ((shown ≢ fault.CannotListen) × (service.accepted ≡ 0) × (serves.has_failed ≡ false))
+      (IsUnserved shown × (service.accepted ≡ 0) × (serves.has_failed ≡ false))
       ⊎ (((shown ≡ fault.CannotListen) × IsTrue serves.has_failed
       × ((service.accepted ≡ 0) ⊎ (service.accepted < terms.connections)))
       ⊎ ((shown ≡ fault.Store Store) × (serves.has_failed ≡ false) × IsClosed)))
@@ -129,7 +144,10 @@ pub record PrintsServed (terms : Terms) (old new errors_old errors_new : Option 
   pub err_line :
       IsTrue ending.is_err_written → PrintsFaults terms.connections errors_old errors_new
 
--- after a fault other than of writing, `out` is unchanged, or the port was printed
-abbrev pub LeavesPort : Terms → Option (List ℕ) → Option (List ℕ) → ProgramFault → Type 0
-LeavesPort terms old new shown =
-    shown ≢ fault.CannotWrite → Keeps old new ⊎ PrintsPort terms.port old new
+-- after a fault of writing, a front of the port was printed; after another, `out` is unchanged, or
+-- the port was printed
+pub record LeavesPort (terms : Terms) (old new : Option (List ℕ)) (shown : ProgramFault)
+    : Type 0 where
+  pub other : shown ≢ fault.CannotWrite → Keeps old new ⊎ PrintsPort terms.port old new
+  pub front : shown ≡ fault.CannotWrite
+      → (port : ℕ) × IsPortOf terms.port port × WritesFront old new (listening_line port)

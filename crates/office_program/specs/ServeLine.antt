@@ -4,11 +4,9 @@ use Rattle.std.specs.Str.Parse.{IsNumeral, digits_value, without_leading_plus}
 use Rattle.clap.specs.Words.{App, Row, Rule, Text, first_of}
 use Rattle.clap.specs.Words.{new_app, new_rule, one_of, with_rule}
 use Rattle.clap.specs.declared.builder.value_parser.ValueParser.TheVariants.{Signed}
-use Rattle.office_connections.specs.declared.listening.TheConstants.{MAX_PORT}
 use Rattle.office_program.specs.declared.words.Task.{Task}
 use Rattle.office_program.specs.declared.words.Task.TheVariants.{Check, CheckAll, CheckAs, Compare, Explain, Export, Load, Places, Serve}
 use Rattle.office_program.specs.declared.words.Terms.{Terms}
-use Rattle.office_program.specs.declared.words.TheConstants.{MAX_CONNECTIONS, MAX_PATIENCE}
 use Rattle.office_program.specs.CommandLine.{named_rule}
 
 -- an option with a whole number within these bounds as its value
@@ -17,15 +15,15 @@ number_option rule least most = record rule { parser = Some (Signed (pos least) 
 
 -- the required option of the port
 abbrev pub port_rule : Rule
-port_rule = number_option (named_rule (codes "port")) 0 MAX_PORT
+port_rule = number_option (named_rule (codes "port")) 0 65535
 
 -- the required option of the number of connections
 abbrev pub connections_rule : Rule
-connections_rule = number_option (named_rule (codes "connections")) 1 MAX_CONNECTIONS
+connections_rule = number_option (named_rule (codes "connections")) 1 1000000
 
 -- the option of the timeout in seconds, by default 30
 abbrev pub patience_rule : Rule
-patience_rule = record (number_option (new_rule (codes "patience")) 1 MAX_PATIENCE) {
+patience_rule = record (number_option (new_rule (codes "patience")) 1 86400) {
   long = Some (codes "patience");
   value_names = 1;
   defaults = codes "30" ∷ [];
@@ -45,11 +43,11 @@ HasNumber name rows n =
 -- the numbers found for `serve` are those of the terms, each within its bounds
 abbrev pub HasTerms : List Row → Terms → Type 0
 HasTerms rows terms =
-    HasNumber (codes "port") rows terms.port × (terms.port ≤ MAX_PORT)
+    HasNumber (codes "port") rows terms.port × (terms.port ≤ 65535)
     × HasNumber (codes "connections") rows terms.connections
-    × (1 ≤ terms.connections) × (terms.connections ≤ MAX_CONNECTIONS)
+    × (1 ≤ terms.connections) × (terms.connections ≤ 1000000)
     × HasNumber (codes "patience") rows terms.patience
-    × (1 ≤ terms.patience) × (terms.patience ≤ MAX_PATIENCE)
+    × (1 ≤ terms.patience) × (terms.patience ≤ 86400)
 
 -- the values found for `serve` are those of the task
 abbrev pub HasServeValues : List Row → Task → Type 0

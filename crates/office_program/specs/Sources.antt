@@ -22,10 +22,6 @@ Known = Option (Option (List ℕ))
 abbrev pub source_at : Option (List ℕ) → (List ℕ → Known) → List ℕ → Known
 source_at stdin files path = if is_stdin path then option_map Some stdin else files path
 
--- what is known of a file by its path, of which `-` names none
-abbrev pub file_at : (List ℕ → Known) → List ℕ → Known
-file_at files path = if is_stdin path then None else files path
-
 -- the file can be opened, and has this text, as far as is known
 abbrev pub IsTextOf : Known → List ℕ → Type 0
 IsTextOf None text = Unit {0}

@@ -1,5 +1,5 @@
 -- The lines that may be written about a task's work, by what is found at its paths.
-use Rattle.std.specs.Prelude.{◌≤◌, ℕ, Bool, IsTrue, List, None, Option, Some, string_bytes, true}
+use Rattle.std.specs.Prelude.{◌<◌, ◌≤◌, ℕ, Bool, IfSome, IsTrue, List, None, Option, Some, string_bytes, true}
 use Rattle.std.proofs.Props.{props}
 use Rattle.office_program.specs.LongWork.{loading_line, making_line, opening_line, publishing_line}
 use Rattle.office_program.specs.LongWork.{upgrading_line}
@@ -11,6 +11,10 @@ use Rattle.office_program.specs.declared.words.Task.TheVariants.{Check, CheckAll
 -- a large file may be found at the path
 abbrev pub IsLarge : (List ℕ → Option Found → Type 0) → List ℕ → Type 0
 IsLarge finds path = (found : Found) × finds path (Some found) × (LARGE ≤ found.size)
+
+-- nothing, or a file that isn't large, may be found at the path
+abbrev pub IsNotLarge : (List ℕ → Option Found → Type 0) → List ℕ → Type 0
+IsNotLarge finds path = (found : Option Found) × finds path found × IfSome found (λ f. f.size < LARGE)
 
 -- a line about a large file may be written on a terminal
 abbrev pub MayNoteLarge : (List ℕ → Option Found → Type 0) → (Bool → Type 0) → (List ℕ → Bool)

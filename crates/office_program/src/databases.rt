@@ -92,7 +92,7 @@ pub(crate) fn open_at<'a, H: Surroundings, S: Alter, D: Databases<Opened = Conne
         KeepsOthers database.now (D.known databases.old) (D.known databases.new)) }
     ensures failed { IfErr result
         (FailsToOpen (D.known databases.old) (D.known databases.new) database.now) }
-    ensures other { IfErr result (λ shown. shown ≢ ProgramFault.CannotListen) }
+    ensures other { IfErr result (λ shown. shown ≢ ProgramFault.CannotWrite) }
 {
     announce(host, LongWork::Opening(database));
     match databases.open_database(database) {
@@ -116,6 +116,7 @@ pub(crate) fn open_found<'a, H: Surroundings, S: Alter, D: Databases<Opened = Co
     ensures failed { IfErr result (λ shown.
         FailsToOpen (D.known databases.old) (D.known databases.new) database.now shown
         ⊎ IsEmpty (D.known databases.old) (D.known databases.new) database.now shown) }
+    ensures other { IfErr result (λ shown. shown ≢ ProgramFault.CannotWrite) }
 {
     match databases.has_database(database) {
         Ok(true) => open_at(host, databases, database),

@@ -1,9 +1,11 @@
 // `explain`: prints faults in words.
-ghost use Rattle.std.specs.Prelude.{◌≡◌, ◌++◌, ◌∷◌, [], IfErr, IfOk, OnOk, map, option_map};
+ghost use Rattle.std.specs.Prelude.{◌≡◌, ◌++◌, ◌∷◌, [], IfErr, IfOk, OnErr, OnOk, map, option_map};
 ghost use Rattle.std.specs.Io.KnownBytes.{Appends};
+ghost use Rattle.office_output.specs.Writing.{WritesFront};
 ghost use Rattle.office_program.specs.Explaining.{fault_words, numbered_text};
 
 use crate::faults::ProgramFault;
+use office_output::write_text;
 use std::io::{self, Write};
 
 // The faults of a file, from 1. The part in front of the colon is the short form.
@@ -78,6 +80,8 @@ pub(crate) fn explain<'a, W: Write>(words: &str, out: &mut W) -> Result<(), Prog
     ensures printed { IfOk result (λ _.
         Appends (W.contents out.old) (W.contents out.new) (words.now ++ 10 ∷ [])) }
     ensures fault { IfErr result (λ fault. fault ≡ ProgramFault.CannotWrite) }
+    ensures front { IfErr result (λ _.
+        WritesFront (W.contents out.old) (W.contents out.new) (words.now ++ 10 ∷ [])) }
 {
     match print_words(words, out) {
         Ok(()) => Ok(()),
@@ -87,8 +91,11 @@ pub(crate) fn explain<'a, W: Write>(words: &str, out: &mut W) -> Result<(), Prog
 
 // Prints words as a line.
 fn print_words<W: Write>(words: &str, out: &mut W) -> io::Result<()>
-    ensures { OnOk result
+    ensures ok { OnOk result
         (Appends (W.contents out.old) (W.contents out.new) (words.now ++ 10 ∷ [])) }
+    ensures err { OnErr result
+        (WritesFront (W.contents out.old) (W.contents out.new) (words.now ++ 10 ∷ [])) }
 {
-    writeln!(out, "{words}")
+    write_text(out, words.as_bytes())?;
+    write_text(out, b"\n")
 }

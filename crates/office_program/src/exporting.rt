@@ -10,7 +10,7 @@ ghost use Rattle.office_store.specs.Opening.{HoldsOffice};
 ghost use Rattle.office_store.specs.Running.{CallRan};
 ghost use Rattle.office_program.specs.Databases.{ExportsIn, LeavesUnexported, UsesDatabase};
 ghost use Rattle.office_program.specs.Export.{ExportRan, Exports, IfRead, IsWhole};
-ghost use Rattle.office_program.specs.Export.{PrintsSolution, RefusesExport};
+ghost use Rattle.office_program.specs.Export.{PrintsSolution, PrintsSolutionFront, RefusesExport};
 ghost use Rattle.office_program.specs.Export.{published_solution};
 ghost use Rattle.office_program.specs.Foreign.{LeavesIfForeign, OfOffice};
 ghost use Rattle.office_program.specs.Load.{MayUpgrade, connection_after};
@@ -23,6 +23,7 @@ use crate::notices::announce_upgrade;
 use crate::surroundings::Surroundings;
 use office_files::{FaultKind, write_solution};
 use office_http::{Alter, Connection, Office, StoreFault};
+use office_output::write_text;
 use std::alloc::Global;
 use std::io::Write;
 
@@ -56,6 +57,8 @@ pub(crate) fn export<'a, H: Surroundings, S: Alter, D: Databases<Opened = Connec
     ensures fault { IfErr result IsOfExport }
     ensures unwritten { IfErr result (λ fault. fault ≢ ProgramFault.CannotWrite
         → Keeps (W.contents out.old) (W.contents out.new)) }
+    ensures front { IfErr result (λ fault. fault ≡ ProgramFault.CannotWrite
+        → PrintsSolutionFront (W.contents out.old) (W.contents out.new)) }
 {
     let conn = match open_found(host, databases, database) {
         Ok(conn) => conn,
@@ -103,6 +106,8 @@ pub fn export_run<S: Alter, W: Write>(
         PrintsSolution (W.contents writer.old) (W.contents writer.new)) }
     ensures unwritten { IfErr result (λ e. e.0 ≢ ExportFault.Write
         → Keeps (W.contents writer.old) (W.contents writer.new)) }
+    ensures front { IfErr result (λ e. e.0 ≡ ExportFault.Write
+        → PrintsSolutionFront (W.contents writer.old) (W.contents writer.new)) }
 
     // A later opening may find what it might have found before, or the same office in version 2.
     ensures survives { Survives (state S.Store conn) (state S.Store (connection_after result))
@@ -132,10 +137,12 @@ fn export_from<S: Alter, W: Write>(
         PrintsSolution (W.contents writer.old) (W.contents writer.new)) }
     ensures unwritten { IfErr result (λ fault. fault ≢ ExportFault.Write
         → Keeps (W.contents writer.old) (W.contents writer.new)) }
+    ensures front { IfErr result (λ fault. fault ≡ ExportFault.Write
+        → PrintsSolutionFront (W.contents writer.old) (W.contents writer.new)) }
     ensures survives { Survives (state S.Store office.old) (state S.Store office.new) (λ _. ⊥) }
 {
     let text = published_text(alloc, office)?;
-    match writer.write_all(&text) {
+    match write_text(writer, &text) {
         Ok(()) => Ok(()),
         Err(_) => Err(ExportFault::Write),
     }

@@ -98,6 +98,7 @@ pub(crate) fn fault_on<'a>(
 ) -> ProgramFault<'a>
     ensures line { fault_line result ≡ check_line instance.now solution.now fault }
     ensures write { fault ≡ CheckFault.Write → result ≡ ProgramFault.CannotWrite }
+    ensures only { result ≡ ProgramFault.CannotWrite → fault ≡ CheckFault.Write }
 {
     match fault {
         CheckFault::ReadInstance => ProgramFault::CannotRead(instance),
@@ -111,7 +112,8 @@ pub(crate) fn fault_on<'a>(
 
 // Returns the program's fault for a fault of the instance's input.
 pub(crate) fn fault_of_input<'a>(fault: InputFault, path: &'a str) -> ProgramFault<'a>
-    ensures { fault_line result ≡ input_line path.now fault }
+    ensures line { fault_line result ≡ input_line path.now fault }
+    ensures other { result ≢ ProgramFault.CannotWrite }
 {
     match fault {
         InputFault::Read => ProgramFault::CannotRead(path),
@@ -135,6 +137,7 @@ pub(crate) fn fault_of_solution<'a>(fault: InputFault, path: &'a str) -> Program
 pub(crate) fn fault_of_load<'a>(fault: LoadFault) -> ProgramFault<'a>
     ensures line { fault_line result ≡ load_line fault }
     ensures write { fault ≡ LoadFault.Write → result ≡ ProgramFault.CannotWrite }
+    ensures only { result ≡ ProgramFault.CannotWrite → fault ≡ LoadFault.Write }
 {
     match fault {
         LoadFault::Store(StoreFault::Refused(Refusal::File(fault))) => ProgramFault::Instance(
@@ -149,6 +152,7 @@ pub(crate) fn fault_of_load<'a>(fault: LoadFault) -> ProgramFault<'a>
 pub(crate) fn fault_of_export<'a>(fault: ExportFault) -> ProgramFault<'a>
     ensures line { fault_line result ≡ export_line fault }
     ensures write { fault ≡ ExportFault.Write → result ≡ ProgramFault.CannotWrite }
+    ensures only { result ≡ ProgramFault.CannotWrite → fault ≡ ExportFault.Write }
 {
     match fault {
         ExportFault::Store(fault) => ProgramFault::Store(fault),
@@ -163,6 +167,7 @@ pub(crate) fn fault_of_run<'a>(fault: RunFault) -> ProgramFault<'a>
     ensures line { fault_line result ≡ run_line fault }
     ensures listen { fault ≡ RunFault.Listen → result ≡ ProgramFault.CannotListen }
     ensures write { fault ≡ RunFault.Write → result ≡ ProgramFault.CannotWrite }
+    ensures only { result ≡ ProgramFault.CannotWrite → fault ≡ RunFault.Write }
     ensures shut { fault ≡ RunFault.Shut → result ≡ ProgramFault.Store StoreFault.Store }
 {
     match fault {
@@ -175,7 +180,7 @@ pub(crate) fn fault_of_run<'a>(fault: RunFault) -> ProgramFault<'a>
 // Returns the program's fault for a database that can't be opened.
 pub(crate) fn fault_of_open<'a>(error: Error) -> ProgramFault<'a>
     ensures line { fault_line result ≡ open_line error }
-    ensures other { result ≢ ProgramFault.CannotListen }
+    ensures other { result ≢ ProgramFault.CannotWrite }
 {
     match error {
         Error::SqliteFailure(ErrorCode::OutOfMemory) => ProgramFault::NoMemory,

@@ -1,6 +1,6 @@
 // What is read of a task's files. That a file can't be read is said only if a read of it failed.
 ghost use Rattle.std.specs.Prelude.{◌≡◌, ◌≢◌, ◌≤◌, ◌⊎◌, ℕ, IfErr, IfOk, IfSome, List, Some, length};
-ghost use Rattle.std.specs.Prelude.{option_map, true};
+ghost use Rattle.std.specs.Prelude.{false, option_map, true};
 ghost use Rattle.std.specs.Io.KnownBytes.{Keeps};
 ghost use Rattle.exam_terms.specs.declared.limits.TheConstants.{INSTANCE_BYTES};
 ghost use Rattle.office_check.specs.Check.{OfInputs};
@@ -73,7 +73,8 @@ pub(crate) fn verdict_of<R: TextReader>(
 // Returns the fault of an input, which is one of reading only if a read failed. Out of memory in
 // its place can't happen: reads that don't fail reach the end or the limit before the 5,000,000th.
 fn input_fault(fault: InputFault, has_failed: bool) -> InputFault
-    ensures same { (result ≡ fault) ⊎ (result ≡ InputFault.NoMemory) }
+    ensures same { (result ≡ fault) ⊎ ((result ≡ InputFault.NoMemory)
+        × (fault ≡ InputFault.Read) × (has_failed ≡ false)) }
     ensures read { result ≡ InputFault.Read → has_failed ≡ true }
 {
     match fault {
@@ -111,7 +112,9 @@ pub(crate) fn answer_of<K: SolutionTask, R: TextReader, Q: TextReader, W: Write>
 
 // Returns the fault of two inputs, likewise.
 fn check_fault(fault: CheckFault, has_first_failed: bool, has_second_failed: bool) -> CheckFault
-    ensures same { (result ≡ fault) ⊎ (result ≡ CheckFault.NoMemory) }
+    ensures same { (result ≡ fault) ⊎ ((result ≡ CheckFault.NoMemory)
+        × (((fault ≡ CheckFault.ReadInstance) × (has_first_failed ≡ false))
+        ⊎ ((fault ≡ CheckFault.ReadSolution) × (has_second_failed ≡ false)))) }
     ensures write { fault ≡ CheckFault.Write → result ≡ fault }
     ensures first { result ≡ CheckFault.ReadInstance → has_first_failed ≡ true }
     ensures second { result ≡ CheckFault.ReadSolution → has_second_failed ≡ true }
@@ -163,7 +166,10 @@ fn compare_fault(
     has_second_failed: bool,
     has_third_failed: bool,
 ) -> CompareFault
-    ensures same { (result ≡ fault) ⊎ (result ≡ CompareFault.Check CheckFault.NoMemory) }
+    ensures same { (result ≡ fault) ⊎ ((result ≡ CompareFault.Check CheckFault.NoMemory)
+        × (((fault ≡ CompareFault.Check CheckFault.ReadInstance) × (has_first_failed ≡ false))
+        ⊎ (((fault ≡ CompareFault.Check CheckFault.ReadSolution) × (has_second_failed ≡ false))
+        ⊎ ((fault ≡ CompareFault.ReadAfter) × (has_third_failed ≡ false))))) }
     ensures write { fault ≡ CompareFault.Check CheckFault.Write → result ≡ fault }
     ensures first { result ≡ CompareFault.Check CheckFault.ReadInstance
         → has_first_failed ≡ true }

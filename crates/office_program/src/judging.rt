@@ -1,11 +1,12 @@
 // `check-all`: judges many solutions of one session by the files of their paths.
-ghost use Rattle.std.specs.Prelude.{◌≡◌, ◌≢◌, ℕ, IfErr, IfOk, List};
+ghost use Rattle.std.specs.Prelude.{◌≡◌, ◌≢◌, ℕ, IfErr, IfOk, List, OnErr};
 ghost use Rattle.std.specs.Prelude.{◌&&◌, ◌||◌, Some, false, map, option_map, string_bytes, true};
 ghost use Rattle.std.specs.Io.KnownBytes.{Keeps};
 ghost use Rattle.office_files.specs.InstanceText.{InstanceText};
 ghost use Rattle.office_program.specs.CheckAll.{AddsOutcome, HasOutcomes, IsLineOf, JudgesAll};
-ghost use Rattle.office_program.specs.CheckAll.{IsInstanceCause, IsSolutionCause, status_of_all};
-ghost use Rattle.office_program.specs.Sources.{IsTextOf, file_at, source_at};
+ghost use Rattle.office_program.specs.CheckAll.{IsInstanceCause, IsSolutionCause, StopsAll};
+ghost use Rattle.office_program.specs.CheckAll.{StopsAmong, StopsAt, status_of_all};
+ghost use Rattle.office_program.specs.Sources.{IsFile, IsTextOf, source_at};
 ghost use Rattle.office_program.specs.TaskFaults.{IsOfCheckAll};
 
 use crate::ending::Ending;
@@ -17,6 +18,7 @@ use crate::sources::is_stdin;
 use crate::texts::Texts;
 use office_check::{Judge, LineForm};
 use office_files::InputFault;
+use office_output::write_text;
 use std::alloc::Global;
 use std::io::{self, Write};
 
@@ -47,9 +49,8 @@ pub(crate) fn check_all<'a, T: Texts, I: TextReader, W: Write, E: Lines>(
     out: &mut W,
     err: &mut E,
 ) -> Result<Ending, ProgramFault<'a>>
-    ensures judged { IfOk result (λ ending. JudgesAll E.tells
-        (source_at (I.remaining stdin.old) (T.known files.now) session.now)
-        (file_at (T.known files.now)) form (map string_bytes solutions.now)
+    ensures judged { IfOk result (λ ending. JudgesAll E.tells session.now (T.known files.now) form
+        (map string_bytes solutions.now) (I.remaining stdin.old) (I.remaining stdin.new)
         (W.contents out.old) (W.contents out.new) err.old err.new
         ending.is_err_written ending.status) }
 
@@ -58,6 +59,9 @@ pub(crate) fn check_all<'a, T: Texts, I: TextReader, W: Write, E: Lines>(
         (source_at (I.remaining stdin.old) (T.known files.now))) }
     ensures unwritten { IfErr result (λ fault. fault ≢ ProgramFault.CannotWrite
         → Keeps (W.contents out.old) (W.contents out.new)) }
+    ensures front { IfErr result (λ fault. fault ≡ ProgramFault.CannotWrite
+        → StopsAll E.tells session.now (T.known files.now) form (map string_bytes solutions.now)
+        (I.remaining stdin.old) (W.contents out.old) (W.contents out.new) err.old err.new) }
     ensures untold { IfErr result (λ fault. fault ≢ ProgramFault.CannotWrite → err.new ≡ err.old) }
 {
     let judge = match judge_at(alloc, files, stdin, session, solutions.len()) {
@@ -86,6 +90,7 @@ fn judge_at<T: Texts, I: TextReader>(
         × InstanceText text judge.0 judge.1) }
     ensures refused { IfErr result (IsInstanceCause
         (source_at (I.remaining stdin.old) (T.known files.now) path.now)) }
+    ensures unread { IsFile path.now → I.remaining stdin.new ≡ I.remaining stdin.old }
 {
     if is_stdin(path) {
         return judge_of(alloc, stdin, solutions);
@@ -120,8 +125,11 @@ fn judge_each<T: Texts, I: TextReader, W: Write, E: Lines>(
     out: &mut W,
     err: &mut E,
 ) -> io::Result<Found>
-    ensures ok { IfOk result (HasOutcomes E.tells judge.now.0 judge.now.1
-        (file_at (T.known files.now)) form (map string_bytes solutions.now)
+    ensures ok { IfOk result (HasOutcomes E.tells judge.now.0 judge.now.1 (T.known files.now) form
+        (map string_bytes solutions.now) (I.remaining stdin.old) (I.remaining stdin.new)
+        (W.contents out.old) (W.contents out.new) err.old err.new) }
+    ensures err { OnErr result (StopsAmong E.tells judge.now.0 judge.now.1 (T.known files.now) form
+        (map string_bytes solutions.now) (I.remaining stdin.old)
         (W.contents out.old) (W.contents out.new) err.old err.new) }
 {
     let mut found = Found {
@@ -147,13 +155,15 @@ fn judge_one<T: Texts, I: TextReader, W: Write, E: Lines>(
     out: &mut W,
     err: &mut E,
 ) -> io::Result<Found>
-    ensures ok { IfOk result (AddsOutcome E.tells judge.now.0 judge.now.1
-        (file_at (T.known files.now)) form path.now found
+    ensures ok { IfOk result (AddsOutcome E.tells judge.now.0 judge.now.1 (T.known files.now) form
+        path.now found (I.remaining stdin.old) (I.remaining stdin.new)
         (W.contents out.old) (W.contents out.new) err.old err.new) }
+    ensures err { OnErr result (StopsAt judge.now.0 judge.now.1 (T.known files.now) form path.now
+        (I.remaining stdin.old) (W.contents out.old) (W.contents out.new) × (err.new ≡ err.old)) }
 {
     match line_at(alloc, files, stdin, judge, path, form) {
         Ok(line) => {
-            out.write_all(line.text.as_bytes())?;
+            write_text(out, line.text.as_bytes())?;
             Ok(with_verdict(found, line.has_breach))
         }
         Err(fault) => {
@@ -202,9 +212,10 @@ fn line_at<T: Texts, I: TextReader>(
     form: LineForm,
 ) -> Result<VerdictLine, InputFault>
     ensures ok { IfOk result (IsLineOf judge.now.0 judge.now.1 form path.now
-        (file_at (T.known files.now) path.now)) }
+        (source_at (I.remaining stdin.old) (T.known files.now) path.now)) }
     ensures refused { IfErr result (IsSolutionCause judge.now.0
-        (file_at (T.known files.now) path.now)) }
+        (source_at (I.remaining stdin.old) (T.known files.now) path.now)) }
+    ensures unread { IsFile path.now → I.remaining stdin.new ≡ I.remaining stdin.old }
 {
     if is_stdin(path) {
         return line_by(alloc, stdin, judge, path, form);

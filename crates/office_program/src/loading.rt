@@ -1,5 +1,5 @@
 // Loads a session into the office of a database.
-ghost use Rattle.std.specs.Prelude.{◌≡◌, ◌≢◌, ◌≤◌, ◌⊎◌, ℕ, IfErr, IfOk, IsTrue, List, OnOk, length};
+ghost use Rattle.std.specs.Prelude.{◌≡◌, ◌≢◌, ◌≤◌, ◌⊎◌, ℕ, IfErr, IfOk, IsTrue, List, OnErr, OnOk, length};
 ghost use Rattle.std.specs.Io.KnownBytes.{Appends, Keeps};
 ghost use Rattle.sqlite.specs.Held.{state};
 ghost use Rattle.sqlite.specs.State.{HasCleanDisk, Survives};
@@ -14,7 +14,8 @@ ghost use Rattle.office_program.specs.Sources.{IsTextOf};
 ghost use Rattle.office_program.specs.Surroundings.{MayNoteLarge, MayNoteOpening};
 ghost use Rattle.office_program.specs.TaskFaults.{IsOfLoad, IsOfOffice, IsTextCause};
 ghost use Rattle.office_program.specs.Load.{IfRefused, IfStored, LoadRan, Loads, MayBringUp, MayLoad, NamesTextFault};
-ghost use Rattle.office_program.specs.Load.{PrintsCounts, RefusesLoad, connection_after, fault_of, loaded_text};
+ghost use Rattle.office_program.specs.Load.{PrintsCounts, PrintsCountsFront, RefusesLoad, connection_after, fault_of, loaded_text};
+ghost use Rattle.office_output.specs.Writing.{WritesFront};
 
 use crate::databases::{Databases, open_at};
 use crate::faults::{ProgramFault, fault_of_input, fault_of_load};
@@ -22,8 +23,10 @@ use crate::inputs::text_of;
 use crate::notices::{LongWork, announce, announce_upgrade};
 use crate::surroundings::Surroundings;
 use crate::texts::Texts;
+use arrayvec::ArrayVec;
 use office_files::InputFault;
 use office_http::{Alter, Connection, Loaded, Office, StoreFault};
+use office_output::write_text;
 use std::alloc::Global;
 use std::fmt;
 use std::io::{self, Write};
@@ -99,6 +102,9 @@ pub(crate) fn load<
     ensures fault { IfErr result (IsOfLoad instance.now (T.known files.now)) }
     ensures unwritten { IfErr result (λ fault. fault ≢ ProgramFault.CannotWrite
         → Keeps (W.contents out.old) (W.contents out.new)) }
+    ensures front { IfErr result (λ fault. fault ≡ ProgramFault.CannotWrite → (text : List ℕ)
+        × IsTextOf (T.known files.now instance.now) text
+        × PrintsCountsFront text (W.contents out.old) (W.contents out.new)) }
 {
     announce(host, LongWork::Loading(instance));
     match text_at(host.allocator(), files, instance) {
@@ -138,6 +144,8 @@ fn load_text<'a, H: Surroundings, S: Alter, D: Databases<Opened = Connection<S>>
     ensures fault { IfErr result (IsOfOffice text.now) }
     ensures unwritten { IfErr result (λ fault. fault ≢ ProgramFault.CannotWrite
         → Keeps (W.contents out.old) (W.contents out.new)) }
+    ensures front { IfErr result (λ fault. fault ≡ ProgramFault.CannotWrite
+        → PrintsCountsFront text.now (W.contents out.old) (W.contents out.new)) }
 {
     let conn = match open_at(host, databases, database) {
         Ok(conn) => conn,
@@ -188,6 +196,8 @@ pub fn load_run<S: Alter, W: Write>(
         PrintsCounts text.now (W.contents writer.old) (W.contents writer.new)) }
     ensures unwritten { IfErr result (λ e. e.0 ≢ LoadFault.Write
         → Keeps (W.contents writer.old) (W.contents writer.new)) }
+    ensures front { IfErr result (λ e. e.0 ≡ LoadFault.Write
+        → PrintsCountsFront text.now (W.contents writer.old) (W.contents writer.new)) }
     // The fault of a refused text is the first one in it.
     ensures first { IfErr result (λ e. NamesTextFault text.now e.0) }
 
@@ -220,6 +230,8 @@ fn load_into<S: Alter, W: Write>(
         (PrintsCounts text.now (W.contents writer.old) (W.contents writer.new)) }
     ensures unwritten { IfErr result (λ fault. fault ≢ LoadFault.Write
         → Keeps (W.contents writer.old) (W.contents writer.new)) }
+    ensures front { IfErr result (λ fault. fault ≡ LoadFault.Write
+        → PrintsCountsFront text.now (W.contents writer.old) (W.contents writer.new)) }
     ensures first { IfErr result (NamesTextFault text.now) }
     ensures survives { Survives (state S.Store office.old) (state S.Store office.new)
         (MayLoad text.now result) }
@@ -234,11 +246,20 @@ fn load_into<S: Alter, W: Write>(
     }
 }
 
-// Writes the counts.
+// Writes the counts. The line is made before, so that what a failed write leaves is a front of it.
 fn print_loaded<W: Write>(loaded: Loaded, writer: &mut W) -> io::Result<()>
-    ensures { OnOk result
+    ensures ok { OnOk result
         (Appends (W.contents writer.old) (W.contents writer.new) (loaded_text loaded)) }
+    ensures err { OnErr result
+        (WritesFront (W.contents writer.old) (W.contents writer.new) (loaded_text loaded)) }
 {
     let line = LoadedLine { loaded };
-    writeln!(writer, "{line}")
+    let mut text: ArrayVec<u8, MOST_OF_LINE> = ArrayVec::new();
+    match writeln!(text, "{line}") {
+        Ok(()) => write_text(writer, text.as_slice()),
+        Err(_) => Err(io::ErrorKind::WriteZero.into()),
+    }
 }
+
+// In bytes: room for the line with the counts, which has four numbers of ten digits at most.
+const MOST_OF_LINE: usize = 128;

@@ -1,8 +1,8 @@
 // Lines for a terminal about work that takes long, and about a new or an old file.
-ghost use Rattle.std.specs.Prelude.{◌≡◌, IsTrue, true};
+ghost use Rattle.std.specs.Prelude.{◌≡◌, IsTrue, false, true};
 ghost use Rattle.office_program.specs.LongWork.{making_line, upgrading_line};
 ghost use Rattle.office_program.specs.LongWork.{work_line, work_path};
-ghost use Rattle.office_program.specs.Surroundings.{IsLarge, MayNoteLarge};
+ghost use Rattle.office_program.specs.Surroundings.{IsLarge, IsNotLarge, MayNoteLarge};
 
 use crate::surroundings::Surroundings;
 use office_check::FileName;
@@ -118,7 +118,8 @@ fn path_of(work: LongWork<'_>) -> &str
 
 // Returns whether a file exists and is large.
 fn is_large<H: Surroundings>(host: &H, path: &str) -> bool
-    ensures { IsTrue result → IsLarge (H.finds host.now) path.now }
+    ensures large { IsTrue result → IsLarge (H.finds host.now) path.now }
+    ensures small { result ≡ false → IsNotLarge (H.finds host.now) path.now }
 {
     match host.look_at(path) {
         Ok(found) => found.size >= LARGE,

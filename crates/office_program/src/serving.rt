@@ -4,6 +4,7 @@ ghost use Rattle.std.specs.Duration.{as_nanos};
 ghost use Rattle.std.specs.Io.KnownBytes.{Appends, Keeps};
 ghost use Rattle.office_connections.specs.Clients.{AreOfClients};
 ghost use Rattle.office_connections.specs.Lines.{listening_line};
+ghost use Rattle.office_output.specs.Writing.{WritesFront};
 ghost use Rattle.office_program.specs.Databases.{ServesIn, ServesNamed};
 ghost use Rattle.office_program.specs.LongWork.{making_line, publishing_line};
 ghost use Rattle.office_program.specs.Serve.{AreOfPort, AreOfPorts, IsStoreShut, LeavesPort};
@@ -52,15 +53,14 @@ pub(crate) fn open_and_serve<
         database.now (publishing_line database.now) }
     // However the call ends, the database at the path was opened, and given back after the last
     // client; or the fault is that it could not be opened. As for `serve_office`, its office served
-    // as many clients of the port of the terms as these say, or the fault says why not, and it
-    // represents the office that they led to.
+    // as many clients of the port of the terms as these say, or the fault says why not.
     ensures serves { IfOk result (λ ending.
-        ServesNamed S.Store (D.known databases.old) (D.known databases.new)
+        ServesNamed S.Store (D.known databases.old) (D.known databases.new) (net.new ≡ net.old)
         (AreOfPorts N.opens N.closes I.accepts I.takes_back
         R.remaining W.contents net.old net.new)
         (E.contents err.old) (E.contents err.new) (Ok ending) database.now terms) }
     ensures unserved { IfErr result (λ shown.
-        ServesNamed S.Store (D.known databases.old) (D.known databases.new)
+        ServesNamed S.Store (D.known databases.old) (D.known databases.new) (net.new ≡ net.old)
         (AreOfPorts N.opens N.closes I.accepts I.takes_back
         R.remaining W.contents net.old net.new)
         (E.contents err.old) (E.contents err.new) (Err shown) database.now terms) }
@@ -108,12 +108,11 @@ pub fn serve_office<
     // A line about a publication may be written on a terminal, if the database is large.
     requires publishes { MayNoteLarge (H.finds host.now) (H.shows host.now) (H.allows host.now)
         database.now (publishing_line database.now) }
-    // Assuming the disk returns what was written: however the call ends, the database represents an
-    // office that serving the clients of the port leads to from the one found, or nobody was served
-    // and it is as it was. As for `serve_clients`, each client is sent the office's replies to its
-    // own messages, and as many are served as the terms say, or the fault says why not. If the
-    // database held no office, nobody is served, and its tables stay.
-    ensures reached { ServesIn S.Store
+    // However the call ends: the office that the database held was opened, and served the clients of
+    // the port, as for `serve_clients`: each client is sent the office's replies to its own messages,
+    // and as many are served as the terms say, or the fault says why not. Or it could not be opened,
+    // no port was listened on, and the tables stay.
+    ensures reached { ServesIn S.Store (net.new ≡ net.old)
         (AreOfPort (λ old. N.opens old terms.port) N.closes I.accepts I.takes_back
         R.remaining W.contents net.old net.new) terms
         (E.contents err.old) (E.contents err.new) result.1 conn result.0 }
@@ -169,7 +168,8 @@ pub fn listen_and_serve<
         (E.contents err.old) (E.contents err.new)) }
     // The fault is one of a database, of an office or of listening.
     ensures fault { IfErr result IsOfServe }
-    // Unless the writer failed, `out` is unchanged, or has only the line of the port.
+    // If the writer failed, `out` has a front of the line of the port; else it is unchanged, or has
+    // that line.
     ensures port { IfErr result
         (LeavesPort terms (O.contents out.old) (O.contents out.new)) }
 {
@@ -225,6 +225,8 @@ pub fn serve_clients<
     ensures unprinted { IfErr result (λ shown. shown ≢ ProgramFault.CannotWrite
         → Keeps (O.contents out.old) (O.contents out.new)
         ⊎ Appends (O.contents out.old) (O.contents out.new) (listening_line port)) }
+    ensures front { IfErr result (λ shown. shown ≡ ProgramFault.CannotWrite
+        → WritesFront (O.contents out.old) (O.contents out.new) (listening_line port)) }
 {
     let Ok(routes) = Routes::new(host.allocator()) else {
         return Err(ProgramFault::NoMemory);

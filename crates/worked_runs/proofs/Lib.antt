@@ -2,3 +2,4 @@ mod SmallReport
 mod SmallWords
 mod SmallRun
 mod SmallLoad
+mod SmallExport

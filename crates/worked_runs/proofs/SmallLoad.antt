@@ -29,14 +29,14 @@ use Rattle.worked_runs.proofs.SmallRun.{no_help, only_memory}
 use Rattle.worked_runs.proofs.SmallWords.{no_mistake_to_load, task_of_load}
 
 -- a connection that is at a path of the shelf is the shelf's
-at_shelf : {C : Type 0} (x : C) (is_path : Bool) (conn : Option C)
+pub at_shelf : {C : Type 0} (x : C) (is_path : Bool) (conn : Option C)
     → IsAt (Some (found_or_error (cond is_path conn None))) x → conn ≡ Some x
 at_shelf x true (Some known) is = ap Some is
 at_shelf x true None never = absurd never
 at_shelf x false conn never = absurd never
 
 -- memory returns what was written
-no_doubt : (conn : Held MemStore) → HasCleanDisk (state over_memory conn)
+pub no_doubt : (conn : Held MemStore) → HasCleanDisk (state over_memory conn)
 unfolding doubt
 no_doubt conn = refl
 

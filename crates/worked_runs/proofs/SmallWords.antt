@@ -13,7 +13,7 @@ use Rattle.office_program.specs.declared.checking.CheckForm.{CheckForm}
 use Rattle.office_program.specs.declared.checking.CheckForm.TheVariants.{Json, Why, WhyFor}
 use Rattle.office_program.specs.declared.words.Task.{Task}
 use Rattle.office_program.specs.declared.words.Task.TheVariants.{Check, CheckAll, CheckAs, Compare, Explain, Export, Load, Places, Serve}
-use Rattle.worked_runs.specs.SmallSession.{check_words, load_words}
+use Rattle.worked_runs.specs.SmallSession.{check_words, export_words, load_words}
 
 -- ---- what is found of a command and its values
 
@@ -152,3 +152,41 @@ task_of_load P holds (Export database) (rows, found, values) =
     absurd (not_named _ _ _ rows load_name refl found)
 task_of_load P holds (Explain words) (rows, found, values) =
     absurd (not_named _ _ _ rows load_name refl found)
+
+-- ---- of `export`
+
+pub no_mistake_to_export : fault_of_words export_words ≡ []
+unfolding walk_fault walked defaults_fault
+no_mistake_to_export = refl
+
+export_name : of_found [] (λ name rows. name) (subcommand_of program export_words)
+    ≡ codes "export"
+unfolding walked
+export_name = refl
+
+export_database : of_found None (λ name rows. first_of (codes "db") rows)
+    (subcommand_of program export_words) ≡ Some (codes "term.db")
+unfolding walked
+export_database = refl
+
+pub task_of_export : (P : Task → Type 0)
+    → ((database : _) → string_bytes database ≡ codes "term.db" → P (Export database))
+    → (task : Task) → IsTask export_words task → P task
+task_of_export P holds (Export database) (rows, found, values) =
+    holds database (same_value _ _ _ _ _ rows export_database found values)
+task_of_export P holds (Check instance solution) (rows, found, values) =
+    absurd (not_named _ _ _ rows export_name refl found)
+task_of_export P holds (CheckAs instance solution form) (rows, found, values) =
+    absurd (not_named _ _ _ rows export_name refl found)
+task_of_export P holds (CheckAll session solutions form) (rows, found, values) =
+    absurd (not_named _ _ _ rows export_name refl found)
+task_of_export P holds (Places instance solution exam) (rows, found, values) =
+    absurd (not_named _ _ _ rows export_name refl found)
+task_of_export P holds (Compare session before after) (rows, found, values) =
+    absurd (not_named _ _ _ rows export_name refl found)
+task_of_export P holds (Load database instance) (rows, found, values) =
+    absurd (not_named _ _ _ rows export_name refl found)
+task_of_export P holds (Serve database terms) (rows, found, values) =
+    absurd (not_named _ _ _ rows export_name refl found)
+task_of_export P holds (Explain words) (rows, found, values) =
+    absurd (not_named _ _ _ rows export_name refl found)

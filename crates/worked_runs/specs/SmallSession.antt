@@ -1,4 +1,4 @@
--- The small session, its solution, the words of two commands on them, and what `check` prints.
+-- The small session, its solution, the words of commands on them, and what `check` prints.
 use Rattle.std.specs.Prelude.{◌∷◌, [], ℕ, List, codes}
 
 -- the session's text
@@ -17,6 +17,10 @@ check_words =
 -- the words of `load` of the session's file
 abbrev pub load_words : List (List ℕ)
 load_words = codes "examoffice" ∷ codes "load" ∷ codes "--db" ∷ codes "term.db" ∷ codes "small.exam" ∷ []
+
+-- the words of `export` of the database
+abbrev pub export_words : List (List ℕ)
+export_words = codes "examoffice" ∷ codes "export" ∷ codes "--db" ∷ codes "term.db" ∷ []
 
 -- the ten lines of the report
 abbrev pub ten_lines : List ℕ

@@ -3,7 +3,10 @@ ghost use Rattle.std.specs.Prelude.{◌≡◌, ◌⊎◌, IfOk, IsSomeAnd, IsTru
 ghost use Rattle.sqlite.specs.Held.{state};
 ghost use Rattle.sqlite.specs.Steps.{over_memory};
 ghost use Rattle.office_program.specs.Folders.{bytes_at};
+ghost use Rattle.office_program.specs.Export.{published_solution};
+ghost use Rattle.office_program.specs.Foreign.{OfOffice};
 ghost use Rattle.office_program.specs.Load.{Loads};
+ghost use Rattle.office_store.specs.Opening.{HoldsOffice};
 ghost use Rattle.worked_runs.specs.SmallSession.{session_text, solution_text, ten_lines};
 
 use crate::desktop::Desktop;
@@ -18,9 +21,7 @@ use std::cell::Cell;
 use std::test::Fail;
 
 #[test]
-fn clauses_say_what_a_check_and_a_load_of_the_small_session_do(
-    rt: HostRuntime,
-) -> Result<(), Fail> {
+fn clauses_say_what_runs_on_the_small_session_do(rt: HostRuntime) -> Result<(), Fail> {
     let lines = Cell::new(None);
     let desktop = Desktop {
         alloc: rt.alloc(),
@@ -36,11 +37,17 @@ fn clauses_say_what_a_check_and_a_load_of_the_small_session_do(
     assert!(rt; err.bytes.is_empty());
     let (ending, out, conn) = load_small(&desktop, &files)?;
     assert_eq!(rt; ending.status, 0);
-    assert!(rt; conn.is_some());
     assert_eq!(rt;
         out.as_slice(),
         b"loaded exams 4 pairs 6 periods 4 rooms 2\n".as_slice()
     );
+    assert!(rt; conn.is_some());
+    if let Some(conn) = conn {
+        // Nothing is published.
+        let (ending, out) = export_small(&desktop, &files, conn)?;
+        assert_eq!(rt; ending.status, 1);
+        assert!(rt; out.is_empty());
+    }
     Ok(())
 }
 
@@ -122,4 +129,39 @@ fn load_small(
     };
     let ending = run_words(&mut machine, &words);
     Ok((ending, machine.out, machine.databases.conn))
+}
+
+// Exports from a database in memory. Returns the ending, and what was printed.
+fn export_small(
+    desktop: &Desktop<'_>,
+    files: &Folder<'_>,
+    conn: Connection<MemStore>,
+) -> Result<(Ending, Vec<u8>), AllocError>
+    // Nothing is assumed of the disk: if the status is 0, the database held an office, and its
+    // publication is printed.
+    ensures printed { IfOk result (λ run. run.0.status ≡ 0
+        → OfOffice (HoldsOffice (state over_memory conn).now)
+        (λ there. published_solution there ≡ Some run.1.items)) }
+{
+    let alloc = desktop.alloc;
+    let words = [
+        String::from_str(alloc, "examoffice")?,
+        String::from_str(alloc, "export")?,
+        String::from_str(alloc, "--db")?,
+        String::from_str(alloc, "term.db")?,
+    ];
+    let mut machine: Machine<'_, Memory<'_, '_>> = Machine {
+        host: desktop,
+        files,
+        databases: Shelf {
+            path: "term.db",
+            conn: Some(conn),
+        },
+        ports: OnePort::closed(),
+        stdin: b"".as_slice(),
+        out: Vec::new(alloc),
+        err: Screen::new(alloc),
+    };
+    let ending = run_words(&mut machine, &words);
+    Ok((ending, machine.out))
 }

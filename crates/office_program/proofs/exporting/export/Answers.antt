@@ -21,6 +21,10 @@ returns-in-Err-export_run-clause-unwritten g c = λ other.
     c.in-Err-export_run.ensures.unwritten
     (λ is. other (c.fault_of_export.ensures.write is))
 
+pub returns-in-Err-export_run-clause-front : goal.returns-in-Err-export_run-clause-front
+returns-in-Err-export_run-clause-front g c = λ is.
+    c.in-Err-export_run.ensures.front (c.fault_of_export.ensures.only is)
+
 -- and so it is if nothing is exported
 pub returns-in-Err-export_run-clause-leaves : goal.returns-in-Err-export_run-clause-leaves
 returns-in-Err-export_run-clause-leaves g c = inr (inr (record {

@@ -15,6 +15,8 @@ returns-in-Ok-judge_each-clause-judged g c =
           session = c.in-Ok.judge.0;
           enrolled = c.in-Ok.judge.1;
           read = c.in-Ok.ensures.spelled.2;
+          left = g.I.Read.remaining c.judge_at.new.stdin;
+          unread = c.in-Ok.ensures.unread;
           judged = all.judged;
         };
         printed = all.printed;

@@ -29,6 +29,6 @@ pub returns-in-Err-clause-leaves : goal.returns-in-Err-clause-leaves
 returns-in-Err-clause-leaves g c = inl (record {
   of = c.in-Err.fault;
   cause = c.in-Err.ensures.refused;
-  line = c.fault_of_input.ensures;
+  line = c.fault_of_input.ensures.line;
   kept = refl;
 })

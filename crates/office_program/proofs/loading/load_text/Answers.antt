@@ -7,6 +7,10 @@ pub returns-in-Err-load_run-clause-unwritten : goal.returns-in-Err-load_run-clau
 returns-in-Err-load_run-clause-unwritten g c = λ other.
     c.in-Err-load_run.ensures.unwritten (λ is. other (c.fault_of_load.ensures.write is))
 
+pub returns-in-Err-load_run-clause-front : goal.returns-in-Err-load_run-clause-front
+returns-in-Err-load_run-clause-front g c = λ is.
+    c.in-Err-load_run.ensures.front (c.fault_of_load.ensures.only is)
+
 -- the text is loaded into the database that was opened, which is given back
 pub returns-in-Ok-load_run-clause-loaded : goal.returns-in-Ok-load_run-clause-loaded
 returns-in-Ok-load_run-clause-loaded g c = (

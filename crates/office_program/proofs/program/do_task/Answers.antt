@@ -90,6 +90,7 @@ returns-in-Err-load-clause-fails g c = record {
   of = rw (c.in-Load.is, ← c.deref-in-Load-2.ensures) c.in-Err-load.ensures.fault;
   leaves = rw (c.in-Load.is, ← c.deref-in-Load.ensures, ← c.deref-in-Load-2.ensures) (record {
     unprinted = c.in-Err-load.ensures.unwritten;
+    front = c.in-Err-load.ensures.front;
     left = c.in-Err-load.ensures.leaves;
     rest = refl;
   });
@@ -100,6 +101,7 @@ returns-in-Err-export-clause-fails g c = record {
   of = rw c.in-Export.is c.in-Err-export.ensures.fault;
   leaves = rw (c.in-Export.is, ← c.deref-in-Export.ensures) (record {
     unprinted = c.in-Err-export.ensures.unwritten;
+    front = c.in-Err-export.ensures.front;
     left = c.in-Err-export.ensures.leaves;
     rest = refl;
   });

@@ -25,3 +25,4 @@ returns-clause-served g c =
 pub returns-clause-port : goal.returns-clause-port
 returns-clause-port g c =
     leaves_port c.args.terms _ c.in-Ok.ensures.port _ _ _ c.serve_clients-done.ensures.unprinted
+    c.serve_clients-done.ensures.front

@@ -3,13 +3,13 @@ use Rattle.std.proofs.lemmas.Bool.{eqb-true}
 use Rattle.sqlite.specs.declared.error.Error.TheVariants.{SqliteFailure}
 use Rattle.sqlite.specs.declared.error.ErrorCode.TheVariants.{OutOfMemory}
 use Rattle.office_program.proofs.ServeFacts.{desk_serves, desk_serves_nobody, desk_shut, serves_nobody}
-use Rattle.office_program.proofs.ServeFacts.{terms_follow, write_is_no_listen}
+use Rattle.office_program.proofs.ServeFacts.{terms_follow}
 use Rattle.office_program.proofs.serving.serve_clients.Goals as goal
 
 pub returns-in_default-clause-served : goal.returns-in_default-clause-served
 returns-in_default-clause-served g c =
     serves_nobody _ _ _ _ _ refl
-    (desk_serves_nobody g.S.Store _) _ (λ is. cc)
+    (desk_serves_nobody g.S.Store _) _ (inl refl)
 
 -- out of memory for the desk gets the same line as out of memory for a database
 pub returns-in_default-clause-fault : goal.returns-in_default-clause-fault
@@ -46,11 +46,7 @@ returns-clause-served g c =
       serves = x.serves;
       all = tt;
       fewer = elim x.fewer [
-        | inl nobody ↦ inl (
-          λ is. absurd (write_is_no_listen _ (c.fault_of_run.ensures.write nobody.0) is),
-          nobody.1,
-          nobody.2,
-        )
+        | inl nobody ↦ inl (inr (c.fault_of_run.ensures.write nobody.0), nobody.1, nobody.2)
         | inr (inl some) ↦ inr (inl (
           c.fault_of_run.ensures.listen some.0,
           some.2,
@@ -69,3 +65,6 @@ returns-clause-served g c =
 pub returns-clause-unprinted : goal.returns-clause-unprinted
 returns-clause-unprinted g c = λ other.
     inr (c.in-Err.ensures.unaccepted (λ is. other (c.fault_of_run.ensures.write is)))
+
+pub returns-clause-front : goal.returns-clause-front
+returns-clause-front g c = λ is. c.in-Err.ensures.front (c.fault_of_run.ensures.only is)
