@@ -19,7 +19,9 @@ from cases import Cases
 PROGRAM = """#!/bin/sh
 printf '%s\\n' "$(pwd)" "$#"
 printf '[%s]\\n' "$@"
+[ "${1:-}" != serve ] || echo "$MALLOC_TRIM_THRESHOLD_"
 """
+SERVICE = pathlib.Path(__file__).resolve().parent.parent / "packaging" / "examoffice@.service"
 # As rt does, it leaves a built file as it is where no text has changed.
 RT = """#!/bin/sh
 [ "$1" = version ] && { echo 'a kit'; exit; }
@@ -52,6 +54,8 @@ class Repository:
         (folder / "bin").mkdir()
         shutil.copy(launcher, self.top / "examoffice")
         (self.top / "release").mkdir()
+        (self.top / "tools").mkdir()
+        shutil.copy(pathlib.Path(launcher).parent / "tools" / "unblocked", self.top / "tools")
         released = pathlib.Path(launcher).parent / "release"
         for script in ("sources", "make", "check"):
             shutil.copy(released / script, self.top / "release")
@@ -132,6 +136,37 @@ def calls(repository, few):
            told(repository, repository.call(*words, start=relative)))
     yield ("a fresh program needs no rt", (0, shown, False, 1),
            told(repository, repository.call(*words, path=few)))
+    name = "MALLOC_TRIM_THRESHOLD_"
+    limits = [line.removeprefix(f"Environment={name}=") for line in
+              SERVICE.read_text().splitlines() if line.startswith(f"Environment={name}=")]
+    yield ("it serves with the limit of its service", [f"{repository.caller}\n1\n[serve]\n{limit}\n"
+                                                       for limit in limits],
+           [repository.call("serve").stdout])
+
+
+def unread(repository):
+    """The lines of `serve` that nobody reads are lost, and it goes on; those of others stay."""
+    if not pathlib.Path("/usr/bin/python3").exists():
+        return
+    writes = ("#!/bin/sh\nn=0\nwhile [ $n -lt 9000 ]; do n=$((n + 1))\n"
+              "echo a line of this program >&2 2> /dev/null || true\ndone\necho \"$*\"\n")
+    started = repository.top / "release" / "examoffice"
+    for words, shown in ((("serve", "two  words"), "serve two  words\n"), (("check",), "")):
+        started.write_text(writes)
+        started.chmod(0o755)
+        reading, writing = os.pipe()
+        process = subprocess.Popen(
+            [repository.top / "examoffice", *words], stdin=subprocess.DEVNULL, text=True,
+            stdout=subprocess.PIPE, stderr=writing, cwd=repository.caller)
+        os.close(writing)
+        try:
+            came = process.communicate(timeout=20 if shown else 3)[0]
+        except subprocess.TimeoutExpired:
+            process.kill()
+            came = process.communicate()[0]
+        yield f"{words[0]}, whose lines nobody reads", shown, came
+        os.close(reading)
+    started.unlink()
 
 
 def edits(repository):
@@ -287,6 +322,7 @@ def cases(repository, folder):
     yield from releases(repository, without_banned(folder))
     yield from unable(repository, few)
     yield from refusals(repository, few)
+    yield from unread(repository)
 
 
 def main():

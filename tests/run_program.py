@@ -29,6 +29,7 @@ EXAMPLES = TOP / "examples"
 # A row of the page's table of faults: the number, the words of the help, and such a line.
 FAULT_ROW = re.compile(r"(?m)^\| (\d+) \w+ \| (.*?) \| (?:line (\d+): `(.*)` )?\|$")
 PAGE = (TOP / "docs" / "generated" / "FAULTS.md").read_text(encoding="utf-8")
+WORKED = (TOP / "docs" / "WORKED.md").read_text(encoding="utf-8")
 FAULTS = FAULT_ROW.findall(PAGE.split("\n## ")[1])
 VERSION = (TOP / "VERSION").read_text(encoding="utf-8").strip()
 # What the launcher says of a release that wasn't built from these sources.
@@ -58,6 +59,9 @@ JUDGED: dict[str, tuple[list[str], list[int]]] = {
     "crowded.sol": (["Clash 0 1", "Capacity 0 0", "Capacity 1 1", "After 1 0"], CROWDED)}
 
 SMALL = "small.exam", "small.sol", GOOD
+
+# An even number of exams that each student sits, one a period: beyond some 33 they aren't listed.
+BUSY = 40
 
 # `device`: where standard output goes; `terminal`: whether standard error is one; `journal`:
 # whether the environment says that it goes to a journal; `piped`: the file that is standard input.
@@ -121,6 +125,18 @@ def with_rules(text, period_rules, room_rules):
     return text.replace(b"[RoomHardConstraints]\n", b"[RoomHardConstraints]\n" + room_rules)
 
 
+def busy_session():
+    """Three students sit all of so many exams that the program doesn't list who shares whom. Two
+    periods are on each day; the cost of the spread is that of two adjacent periods."""
+    starts = "09:00:00", "14:00:00"
+    periods = [f"{day:02}:01:2000, {start}, 60, 0"
+               for day in range(1, BUSY // 2 + 1) for start in starts]
+    return "".join(f"{line}\n" for line in (
+        f"[Exams:{BUSY}]", *["60, 1, 2, 3"] * BUSY, f"[Periods:{BUSY}]", *periods, "[Rooms:1]",
+        "3, 0", "[PeriodHardConstraints]", "[RoomHardConstraints]", "[InstitutionalWeightings]",
+        "TWOINAROW,7", "PERIODSPREAD,1")).encode()
+
+
 def files():
     """The files that the cases name, in the folder from which the program is called."""
     made = {file.name: file.read_bytes() for file in EXAMPLES.iterdir() if file.is_file()}
@@ -159,6 +175,8 @@ def files():
         "at_limit.exam": exam.ljust(INSTANCE_LIMIT),
         "long.exam": exam.ljust(INSTANCE_LIMIT + 1),
         "many.exam": MANY,
+        "busy.exam": busy_session(),
+        "busy.sol": b"".join(b"%d, 0\n" % exam for exam in range(BUSY)),
         "back\\x0a \u00e9.sol": solution,
         "odd.sol": with_line(solution, 2, b"1\x1b\x07[31m\xffx, 0"),
         "three.sol": b"".join(solution.splitlines(True)[:3]),
@@ -291,6 +309,13 @@ def numbered_words(heading):
     return re.findall(r"(?m)^\| (\d+) \w+ \| (.*) \|$", table)
 
 
+def in_short(kind):
+    """The words of a kind's faults in front of the colon, by number, as they stand by hand."""
+    table = WORKED.split("\n## fault_words\n")[1].split("\n## ")[0]
+    row = re.search(rf"(?m)^\| {kind} \| (.*) \|$", table)[1]
+    return dict(part.split(" ", 1) for part in row.split("; "))
+
+
 def load(name, database, instance, exams, pairs, periods, rooms):
     line = b"loaded exams %d pairs %d periods %d rooms %d\n" % (exams, pairs, periods, rooms)
     return Case(name, ("load", "--db", database, instance), 0, line)
@@ -344,6 +369,15 @@ CASES = [
         "spread 1 2 1 1", "spread 0 3 1 1", "night 0 3 1 6", "front 0 2 4", "period 2 1 10",
         "period 3 2 10", "room 1 1 7"),
     why("nothing to explain", "smallest.exam", "smallest.sol", [0] * 8, []),
+    why("students of very many exams", "busy.exam", "busy.sol",
+        [21 * (BUSY // 2), 0, 3 * (BUSY - 1), 0, 0, 0, 0, 0], [],
+        *(f"row {exam} {exam + 1} 3 21" for exam in range(0, BUSY, 2)),
+        *(f"spread {exam} {exam + 1} 3 3" for exam in range(BUSY - 1))),
+    why_for("a student of very many exams", ("busy.exam", "busy.sol",
+            [21 * (BUSY // 2), 0, 3 * (BUSY - 1), 0, 0, 0, 0, 0]), "2",
+            *(f"row {exam} {exam + 1} 1 7" for exam in range(0, BUSY, 2)),
+            *(f"spread {exam} {exam + 1} 1 1" for exam in range(BUSY - 1)),
+            f"student 2 {7 * (BUSY // 2) + BUSY - 1}"),
     piped(why("the summands of a session", "-", "small.sol", GOOD, [], "row 0 1 1 7",
               "day 0 3 1 5", "spread 0 1 1 1", "spread 1 2 1 1", "spread 0 3 1 1",
               "period 2 1 10", "period 3 1 5", "room 1 1 7"), "small.exam"),
@@ -598,6 +632,10 @@ CASES = [
     unloaded("a folder as database", "a folder", "small.exam", b"cannot open database"),
     unloaded("a file that is no database", "small.sol", "small.exam", b"cannot open database"),
     unloaded("a database in memory", ":memory:", "small.exam", b"cannot open database"),
+    unloaded("a URI as database", "file:term.db", "small.exam", b"cannot open database"),
+    unexported("an export of a URI", "file:term.db", b"cannot open database"),
+    Case("a server of a URI", served("file:term.db"), 1, b"",
+         b"examoffice: cannot open database\n"),
     Case("a server of a database in no folder", served("none/none.db"), 1, b"",
          b"examoffice: cannot open database\n"),
     Case("a server of a file that is no database", served("small.sol"), 1, b"",
@@ -613,7 +651,7 @@ CASES = [
          b"error: the words are not all UTF-8\n"),
     unexported("an export of a file that isn't there", "absent.db", b"cannot open database"),
     *(Case(f"{kind} fault {number} in words", ("explain", kind, number), 0,
-           f"{words}\n".encode())
+           f"{in_short(kind)[number]}: {words.split(': ', 1)[1]}\n".encode())
       for kind, rows in KINDS.items() for number, words in rows),
     *(Case(f"{kind} fault {number}, which isn't one", ("explain", kind, str(number)), 2, b"",
            Holding(b"there is no such fault: file has 1 to 13, store 1 to 9, connection 1 to 4"))
@@ -837,6 +875,7 @@ def main():
             if jsonschema and "--json" in case.words and came[1]:
                 judged.judge(f"{case.name}: the schema", [], schema_faults(came[1]))
         judged.judge("an export makes no file", False, pathlib.Path(folder, "absent.db").exists())
+        judged.judge("a URI names no file", [], sorted(pathlib.Path(folder).glob("file:*")))
         judged.judge("an export makes no log beside a file that is no database", [],
                      logs_of_exports(program, folder))
     sys.exit(judged.end())

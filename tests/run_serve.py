@@ -37,8 +37,9 @@ from serve_cases import (
     asked_by, at, batch, batch_text, clear, cost, drafted, enrolled, error, forbidden, me, message,
     move, pending, place, publish, published, reply, report, swap, text)
 
+TOP = pathlib.Path(__file__).resolve().parent.parent
 # A session at the limits, of bench/.
-sys.path.append(str(pathlib.Path(__file__).resolve().parent.parent / "bench"))
+sys.path.append(str(TOP / "bench"))
 sessions = importlib.import_module("sessions")
 
 # Beyond this nothing is waited for, in calm seconds (waiting.py).
@@ -416,6 +417,21 @@ def short_log(run):
         sizes = [database.with_name(f"term.db{end}").stat().st_size for end in ("", "-wal")]
         run.judge(f"publication {number} of 200,000 seats", ([b"201", b"200"], True),
                   ([reply.split()[1] for reply in said], sizes[1] <= 2 * sizes[0] + 2**24))
+    office.killed()
+    memory_at_rest(run, database)
+
+
+def memory_at_rest(run, database):
+    """An office that was opened with 200,000 seats holds at most 60 MB, by the environment of its
+    service."""
+    name = "Environment="
+    lines = (TOP / "packaging" / "examoffice@.service").read_text().splitlines()
+    fields = [line.removeprefix(name) for line in lines if line.startswith(name)]
+    office = Office(run.program, database,
+                    env=os.environ | dict(field.split("=", 1) for field in fields))
+    status = pathlib.Path(f"/proc/{office.process.pid}/status").read_text()
+    held = int(status.partition("VmRSS:")[2].split()[0])
+    run.judge("memory at rest, 200,000 seats", True, held <= 60_000)
     office.killed()
 
 
