@@ -7,11 +7,8 @@ import test from 'node:test';
 // Node has no navigator before its version 21, and no crypto as a global before 19.
 globalThis.navigator ??= { languages: ['en-GB'] };
 globalThis.crypto ??= webcrypto;
-const {
-  batchTexts, changesOfList, effectOf, inverseText, linesIn, textOfAll,
-} = await import('../front/page/changes.js');
 const { calendarText } = await import('../front/page/calendar.js');
-const { columnsOf, csvText, recordsOf } = await import('../front/page/csv.js');
+const { csvText } = await import('../front/page/csv.js');
 const { overlapsOf, pointsInWords } = await import('../front/page/conflicts.js');
 const {
   countsOf, findingsIn,
@@ -22,17 +19,16 @@ const {
 } = await import('../front/page/layout.js');
 const { penaltyOf, pointsAfter } = await import('../front/page/points.js');
 const { sessionIn } = await import('../front/page/session.js');
-const { distance, fold, studentIdentities } = await import('../front/page/identities.js');
 const {
   differences, differencesForCandidate, differencesForDepartment, faultsOfNames, isSealed,
 } = await import('../front/page/labels.js');
-const { Names } = await import('../front/page/names.js');
-const { batchesWith, changesIn, eventsOf } = await import('../front/page/history.js');
+const { fold, Names, numberOf } = await import('../front/page/names.js');
+const { batchesWith, changesIn, eventsOf, inverseText } = await import('../front/page/history.js');
 const { kindsText, sizeText, wantedIn } = await import('../front/page/lists.js');
 const { People } = await import('../front/page/seats.js');
 const { faultOfChoice, filesByKind } = await import('../front/page/setup.js');
 const { examsWith } = await import('../front/page/tables.js');
-const { clashesOf, fullRoomsOf } = await import('../front/page/preview.js');
+const { effectText } = await import('../front/page/preview.js');
 const {
   editOf, requestOf, stepOf, stepText, strayOf,
 } = await import('../front/page/edits.js');
@@ -68,71 +64,7 @@ function cases(about, table) {
 /** The names of a session, with students and with what was changed here. */
 const namesOf = (students, here = []) => Object.assign(new Names(LABELS), { students, here });
 const KNOWN = namesOf(STUDENTS);
-const batchOf = (text, names = KNOWN) => {
-  const { isList, changes, faults } = linesIn(text, names, SESSION);
-  return faults.length ? faults : [isList, ...batchTexts(changes)];
-};
-const wholeOf = (text, names = KNOWN) => {
-  const { isList, changes, faults } = linesIn(text, names, SESSION, { isWhole: true });
-  return faults.length ? faults : [isList, ...batchTexts(changes)];
-};
-const withNew = (text) => {
-  const { changes, fresh, faults } = linesIn(text, KNOWN, SESSION, { takesNew: true });
-  return faults.length ? faults : [batchTexts(changes)[0], fresh];
-};
 const HEADER = 'student,exam,action\n';
-
-cases('CSV texts of spreadsheets become batches', [
-  ['other words and another order', [false, `${HEADER}12,0,add\n`],
-    () => batchOf('Exam,Status,Candidate no.\nMATH101,enrolled,s12\n')],
-  ['semicolons, quotes, capital letters', [false, `${HEADER}3,1,drop\n`],
-    () => batchOf('"student";"exam";"action"\r\n"S3";"phys102";"Withdrawn"\r\n')],
-  ['tabs, a mark at the front, an ID with fewer zeros', [false, `${HEADER}2,1,add\n`],
-    () => batchOf('\ufeffSTUDENT NUMBER\tModule code\tChange\n002\tPHYS102\t+\n')],
-  ['a remark of two lines, and the office\'s numbers', [false, `${HEADER}1,0,add\n2,0,drop\n`],
-    () => batchOf('office student,office exam,action,remark\n1,0,add,"moved, ""late""\nin May"\n'
-      + '2,0,drop,')],
-  ['numbers, where there are no names', [false, `${HEADER}7,1,add\n`],
-    () => batchOf(`${HEADER}7,1,add\n`, new Names())],
-  ['unknown words', ['Line 2: A12: no such student. s12 is D\'Angelo, Chloë',
-    'Line 3: Bo Lukasz: no such student. s3 is Bo Łukasz',
-    'Line 3: MATH1O1: no such exam. MATH101 is Calculus',
-    'Line 4: unknown action ad; it must be add, drop or new',
-    'Line 5: X123456: no such student', 'Line 6: nothing: no such exam'],
-  () => batchOf(`${HEADER}A12,MATH101,add\nBo Lukasz,MATH1O1,add\ns3,MATH101,ad\n`
-    + 'X123456,MATH101,add\ns3,,add\n')],
-  ['numbers, where there are names', ['Line 2: 9: no such student; if it is the '
-    + 'office\'s number, call the column "office student"', 'Line 2: 0: no such exam; if it is the '
-    + 'office\'s number, call the column "office exam"'], () => batchOf(`${HEADER}9,0,add\n`)],
-  ['an exam that does not exist', ['Line 2: unknown exam 2'],
-    () => batchOf('student,office exam,action\ns3,2,add\n')],
-  ['a name of somebody else', ['Line 3: s3 is Bo Łukasz, not Chloe DAngelo'],
-    () => batchOf('student,name,exam,action\ns12,Chloe d’Angelo,MATH101,add\n'
-      + 's3,Chloe DAngelo,MATH101,add\n')],
-  ['a new student', ['Line 2: a new student is added by tools/changes_from_csv, not on this page'],
-    () => batchOf(`${HEADER}r9,MATH101,new\n`)],
-  ['new students, whom the service adds', [`${HEADER}-1,0,add\n-1,1,add\n`, [
-    { number: -1, id: 'r9', name: 'Zoë Zander' }, { number: -2, id: 'q1', name: '' }]],
-  () => withNew('student,name,exam,action\nr9,Zoë Zander,MATH101,new\nr9,,PHYS102,add\nq1,,,new\n')],
-  ['a new student who is known, or nobody', ['Line 2: s3 is Bo Łukasz already', 'Line 3: there is no ID'],
-    () => withNew(`${HEADER}s3,MATH101,new\n,MATH101,new\n`)],
-  ['a list with a new student', [`${HEADER}12,0,add\n-1,1,add\n`, [{ number: -1, id: 'r9', name: 'Zoë' }]],
-    () => withNew('student,exam,name\ns12,MATH101,\nr9,PHYS102,Zoë\n')],
-  ['a list', [true, `${HEADER}12,0,add\n3,1,add\n`],
-    () => batchOf('Student ID;Course code\ns12;MATH101\ns3;PHYS102\n')],
-  ['a list without names', ['Line 1: there is no column for action. A full list of enrolments has '
-    + 'none, but needs the names of this session'], () => batchOf('student,exam\n1,0', new Names())],
-  ['a list with a column of states', [true, `${HEADER}12,0,add\n`],
-    () => wholeOf('student,exam,status\ns12,MATH101,Enrolled\ns3,PHYS102,withdrawn\n')],
-  ['a list with a state that is unknown',
-    ['Line 2: unknown status active; enrolled or withdrawn is expected'],
-    () => wholeOf('student,exam,status\ns12,MATH101,active\n')],
-  ['a list with states, without names', ['A full list needs the names of this session'],
-    () => wholeOf(`${HEADER}1,0,add\n`, new Names())],
-  ['no column', ['Line 1: there is no column for exam (there are: student, action)'],
-    () => batchOf('student,action\n1,add')],
-  ['no line', ['There is no line after the first'], () => batchOf(HEADER)],
-]);
 
 const MARKS = [['García', 'garcia'], ['OBrien', 'obrien'], ["O'Neill", 'oneill'], ['O’Neill', 'oneill'],
   ['Łukasiewicz', 'lukasiewicz'], ['Großmann', 'grossmann'], ['Nguye\u0302\u0303n', 'nguyen'],
@@ -140,55 +72,14 @@ const MARKS = [['García', 'garcia'], ['OBrien', 'obrien'], ["O'Neill", 'oneill'
 
 cases('who is who', [
   ...MARKS.map(([name, words]) => [`${name} without marks`, words, () => fold(name)]),
-  ['how much texts differ', [0, 1, 1, 1, 3], () => [['a', 'a'], ['ab', 'a'], ['ab', 'xb'],
-    ['01000223', 'A1000223'], ['', 'abc']].map(([one, other]) => distance(one, other))],
-  ['one ID that lost its zeros, and two that are alike', [2, 7, null, null],
-    () => ['2', '07', '7', '5'].map((text) => studentIdentities([...STUDENTS,
-      { number: 7, id: '07', name: '' }, { number: 8, id: '007', name: '' }]).number(text))],
+  ['one ID that lost its zeros, two that are alike, and capital letters', [2, 7, null, null, 12],
+    () => ['2', '07', '7', '5', ' S12'].map((text) => numberOf([
+      { number: 2, text: '0000002' }, { number: 7, text: '07' }, { number: 8, text: '007' },
+      { number: 12, text: 's12' }], text))],
 ]);
 
-// Students 1 and 2 take exam 0, student 1 takes exam 1; student 3 was added here, 2 was dropped.
-const LISTED = namesOf([{ number: 1, id: 'a', exams: [0, 1] }, { number: 2, id: 'b', exams: [0] },
-  { number: 3, id: 'c', exams: [1] }], [
-  { student: 3, exam: 1, action: 'add', at: '2027-05-14T10:00:00Z', by: 'ada' },
-  { student: 2, exam: 1, action: 'drop', at: '2027-05-13T10:00:00Z', by: 'ben' }]);
-const differing = (pairs, candidates) => {
-  const { changes, kept } = changesOfList(pairs.map(([student, exam]) => ({ student, exam })), LISTED,
-    candidates);
-  return [changes.map(({ student, exam, action }) => `${student},${exam},${action}`),
-    kept.map(({ student, exam, action, by }) => `${student},${exam},${action} ${by}`)];
-};
-
-cases('a full list', [
-  ['the same', [[], []], () => differing([[1, 0], [2, 0], [1, 1], [3, 1]], [[1, 2], [1, 3]])],
-  ['drops before adds', [['1,0,drop', '4,0,add'], []],
-    () => differing([[4, 0], [2, 0], [1, 1], [3, 1]], [[1, 2], [1, 3]])],
-  ['what was changed here', [[], ['3,1,add ada', '2,1,drop ben']],
-    () => differing([[1, 0], [2, 0], [1, 1], [2, 1]], [[1, 2], [1, 3]])],
-  ['what was changed on the page since', [[], ['4,0,add undefined', '1,0,drop undefined']],
-    () => differing([[1, 0], [2, 0], [1, 1], [3, 1]], [[2, 4], [1, 3]])],
-  ['batches that are short enough', [3, true, 120_000], () => {
-    const texts = batchTexts([...Array(120_000).keys()].map((number) => (
-      { student: 100_000_000 + number, exam: 1_000 + (number % 500), action: 'drop' })));
-    return [texts.length, texts.every((text) => text.length <= 1_048_576 && text.startsWith(HEADER)),
-      texts.join('').split('\n').length - 1 - texts.length];
-  }],
-]);
-
-const read = (text) => text.split(' ').map((line) => line.split(','))
-  .map(([student, exam, action]) => ({ student: Number(student), exam: Number(exam), action }));
-// Candidates 1 and 3 take exam 0, candidate 2 takes exam 1.
-const effect = effectOf(read('1,0,add 5,0,add 1,1,add 2,1,drop 2,1,drop 7,1,drop'), [[1, 3], [2]]);
-// Candidates 5 and -1, who is new, are added to exam 0, and -2 to exam 1, from which 2 is dropped.
-const NEW = read('5,0,add -1,0,add -2,1,add -1,1,add 2,1,drop');
-
-// Exams 0 and 1 are in one room; or each in a room of its own.
-const USED = { uses: [{ period: 0, room: 0, exams: [0, 1] }] };
-const APART = { places: [{ exam: 0, period: 0, room: 0 }, { exam: 1, period: 0, room: 1 }] };
-const ENROLLED = [[1, 3], [2]];
 const breachOf = (rule, exam, other) => ({ rule, exam, other });
 const TOGETHER = [breachOf('Clash', 0, 1)];
-const CROWDED = [breachOf('Capacity', 0, 0), breachOf('Capacity', 1, 1)];
 
 const ALIKE = new Names({ ...LABELS, exams: ['ENG 101.2 of MA 101', 'Élan', 'MA 101']
   .map((code) => ({ code, title: "O’Neill's", minutes: 60, department: null })) });
@@ -201,36 +92,23 @@ cases('exams that are looked for', [
   ['with another apostrophe', [0, 1, 2], () => examsFound("O'Neills")],
 ]);
 
+const read = (text) => text.split(' ').map((line) => line.split(','))
+  .map(([student, exam, action]) => ({ student: Number(student), exam: Number(exam), action }));
+const planOf = (kind, counts) => effectText({ kind, counts: {
+  added: 0, dropped: 0, students_dropped: 0, new: 0, already: 0, kept: 0, ...counts } });
+
 cases('what changes do', [
-  ['how many act, and how many do not', [2, 1, 1, 2],
-    () => [effect.add, effect.drop, effect.there, effect.absent]],
-  ['their opposite, the last one first',
-    'office student,office exam,action\n2,1,add\n1,1,drop\n5,0,drop\n',
-    () => inverseText(effect.acting, new Names())],
-  ['their opposite, by IDs and codes', `${HEADER}0000002,PHYS102,add\n1,PHYS102,drop\n5,MATH101,drop\n`,
-    () => inverseText(effect.acting, KNOWN)],
-  ['two exams at one time', [{ student: 1, exams: [0, 1] }],
-    () => clashesOf(effect.acting, ENROLLED, [...CROWDED, ...TOGETHER])],
-  ['a new candidate in two exams at one time, once', [{ student: -1, exams: [0, 1] }],
-    () => clashesOf(NEW, ENROLLED, TOGETHER)],
-  ['two exams at one time of somebody else', [], () => clashesOf(read('5,0,add'), ENROLLED, TOGETHER)],
-  ['other breaches', [], () => clashesOf(effect.acting, ENROLLED, CROWDED)],
-  // Exam 0 has three candidates then, exam 1 one.
-  ['rooms with enough seats', [], () => fullRoomsOf(effect.acting, ENROLLED, USED, TOGETHER)],
-  ['a room that is too small', [4], () => fullRoomsOf(effect.acting, ENROLLED, USED, CROWDED)
-    .map(({ needed }) => needed)],
-  ['a room that was too small before', [[0, 3]], () => fullRoomsOf(effect.acting.slice(0, 1), ENROLLED, APART,
-    CROWDED).map(({ room, needed }) => [room, needed])],
-  // 0 and 4 are free: 1 to 3 and 5 are candidates.
-  ['their lines, with numbers for who is new',
-    `${HEADER}5,0,add\n0,0,add\n4,1,add\n0,1,add\n2,1,drop\n`, () => textOfAll(NEW, ENROLLED)],
+  ['the opposite, the last one first', `${HEADER}0000002,PHYS102,add\ns3,PHYS102,drop\ns12,MATH101,drop\n`,
+    () => inverseText(read('12,0,add 3,1,add 2,1,drop'), KNOWN)],
+  ['a list that drops', 'The whole list: drops 8,661 enrolments of 2,140 students, adds 1 enrolment.',
+    () => planOf('list', { added: 1, dropped: 8661, students_dropped: 2140 })],
+  ['lines with all that there is', 'Changes: drops 1 enrolment of 1 student, adds 2 enrolments, enters 1 new '
+    + 'student; 3 so already; 4 kept as changed here.',
+  () => planOf('changes', { added: 2, dropped: 1, students_dropped: 1, new: 1, already: 3, kept: 4 })],
+  ['nothing', 'The whole list: changes nothing.', () => planOf('list', {})],
 ]);
 
 cases('CSV', [
-  ['records with their lines', [{ line: 1, fields: ['a', 'b'] }, { line: 3, fields: ['1', 'x\ny'] },
-    { line: 5, fields: ['2', ''] }], () => recordsOf('a;b\n\n 1 ;"x\ny"\n2;\n')],
-  ['columns by any of their names', { exam: 1, date: -1 },
-    () => columnsOf(['Student', 'Exam-Code'], { exam: ['examcode', 'exam'], date: ['date'] })],
   ['a text for spreadsheets', '\ufeffa,"b;c"\r\n1,"say ""x"""\r\n,2\r\n',
     () => csvText([['a', 'b;c'], [1, 'say "x"'], [null, 2]])],
   // Each of these would run as a formula without the apostrophe in front.
@@ -363,6 +241,9 @@ cases('calendars', [
     () => ['', 'b'].flatMap((more) => calendarText(
       [{ ...EVENT, summary: 'a'.repeat(67) + more }], new Date(0)).split('\r\n').filter(
       (line) => /^SUMMARY|^ /.test(line)))],
+  ['ends of lines of all kinds', ['SUMMARY:a\\nb\\nc\\nd'], () => calendarText(
+    [{ ...EVENT, summary: 'a\rb\nc\r\nd' }], new Date(0)).split(/[\r\n]+/).filter(
+    (line) => line.startsWith('SUMMARY') || !line.includes(':') && line)],
   ['no minutes, no end', false,
     () => calendarText([{ ...EVENT, minutes: null }], new Date(0)).includes('DTEND')],
 ]);

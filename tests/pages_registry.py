@@ -268,7 +268,6 @@ def publishing(run, chromium, front):
 # ---- Drafts and owners
 
 DRAFT = "click #draft button.main"
-OWNERS = "click #owners button.main"
 BY_EXAM = [
     "MATH101,Calculus,Mathematics,2005-04-18,09:30,11:30,Great Hall,Main building",
     "MATH102,Linear algebra,Mathematics,2005-04-15,14:00,15:30,Great Hall,Main building",
@@ -278,16 +277,6 @@ BY_EXAM = [
 FOUND = [("optics", ["PHYS102"]), ("phys great", ["PHYS102"]),
          ("MATHEMATICS", ["MATH101", "MATH102"]),
          ("2.14", ["PHYS101"]), ("x", []), ("Óptics", ["PHYS102"]), ("phys102", ["PHYS102"])]
-OWNER_FILES = [
-    ("Exam;Dept\nMATH101;Chemistry\n9;3\n",
-     "No owner was set: 3 faults.\nLine 2: Chemistry: no such department\n"
-     "Line 3: 9: no such exam; if it is the office's number, call the column \"office exam\"\n"
-     "Line 3: 3: no such department; if it is the office's number, call the column "
-     "\"office department\""),
-    ("Exam;Dept\nMATH1O1;Physic\n", "No owner was set: 2 faults.\nLine 2: MATH1O1: no such exam. "
-     "MATH101 is Calculus\nLine 2: Physic: no such department. Physics is department 3"),
-    ("Office exam;Department number\n4;3\n", "No owner was set: 1 fault.\nLine 2: unknown exam 4"),
-    ("Exam;Dept\nmath101;mathematics\nPHYS102;0\n", "2 exams have their owners.")]
 
 
 def written(run, name, content):
@@ -354,13 +343,10 @@ def comparing_and_finding(page):
 
 
 def setting_owners(page, front):
-    """Owners come from a CSV file, or for all exams from the departments of the names."""
-    page.act(f"click {MENU % 'set-up'}")
-    for number, (text, words) in enumerate(OWNER_FILES):
-        path = written(page.run, f"owners-{number}.csv", text.encode())
-        page.steps((f"owners: {words}", [("type", "#owners-file", path), OWNERS], {"said": words}))
-    page.steps(("owners of the names", "click #owners-labels",
-                {"said": "4 exams have their owners."}))
+    """Owners come from the departments of the names; a file of them is read by the service only."""
+    page.steps(
+        ("no file of owners", f"click {MENU % 'set-up'}", {"hidden #owners-of-file": True}),
+        ("owners of the names", "click #owners-labels", {"said": "4 exams have their owners."}))
     last = [target for method, target, status, _ in front.exchanges()
             if (method, status) == ("PUT", 200) and target.endswith("/owner")][-4:]
     page.run.judge("which exams got owners", [f"/exams/{exam}/owner" for exam in range(4)], last)

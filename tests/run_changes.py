@@ -121,6 +121,7 @@ CLEOS = "s3,Cleo Carter,MATH101\n"
 OLDER = "warning: the ledger may be older than its office: "
 CLEO_KEPT = kept("MATH101", "Cleo Carter (s3)", "added", WHO)
 MANY = "which is more than a tenth; if that is meant, say --many\n"
+SHORTER = "a twentieth or more; if that is meant, say --many\n"
 # A list, further words, and what is said; the lists come one after another.
 LISTS = [
     ("the same enrolments", SMALL, (), (0, counts(0, 0), "")),
@@ -128,7 +129,8 @@ LISTS = [
         f"{line.split(',')[0]};{line.split(',')[2]}\n" for line in SMALL.splitlines()[:0:-1]),
      (), (0, counts(0, 0), "")),
     ("a tenth is dropped", SMALL.replace(ADAS, ""), (),
-     (1, "", f"1 of 6 enrolments would be dropped, {MANY}")),
+     (1, "", f"the list is shorter than the last one by 1 of 6 enrolments, {SHORTER}"
+             f"1 of 6 enrolments would be dropped, {MANY}")),
     ("a tenth is new", SMALL + ZOE, (), (1, "", f"1 of 3 students would be new, {MANY}")),
     ("what would be sent", SMALL.replace(ADAS, ZOE), ("--many", "--show"),
      (0, counts(1, 1, 1), "")),

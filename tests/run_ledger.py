@@ -268,6 +268,17 @@ def further_exports(run, folder):
         ("PHYS102", "Optics")]), names_in(made))
     own = json.loads((made / "now" / "names" / "4.json").read_text())
     run.judge("their own file", (4, "r9", "Zoë Zander"), (own["number"], own["id"], own["name"]))
+    for name, first, second, expected in (
+            ("an ID that has its zeros again", "41,", "0041,", "0041"),
+            ("an ID that lost its zeros", "0041,", "41,", "0041")):
+        shutil.rmtree(made)
+        tool(edited(csv, ("enrolments", "s1,", first)), made)
+        before = dict(names_in(made)[0])
+        status = tool(edited(csv, ("enrolments", "s1,", second)), made)[0]
+        number = before[first[:-1]][0]
+        run.judge(name, (0, (number, "Ada Archer")), (status, names_in(made)[0].get(expected)))
+        own = json.loads((made / "now" / "names" / f"{number}.json").read_text())
+        run.judge(f"{name}: their own file", expected, own["id"])
 
 
 def files_are_safe(run, folder):

@@ -2,7 +2,7 @@
 
 const MOST_BYTES = 75;
 
-const escaped = (text) => text.replace(/[\\;,]/g, '\\$&').replace(/\r?\n/g, '\\n');
+const escaped = (text) => text.replace(/[\\;,]/g, '\\$&').replace(/\r\n|\r|\n/g, '\\n');
 
 /** A line in pieces of at most 75 bytes; each later piece begins with a space. */
 function folded(line) {

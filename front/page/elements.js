@@ -44,9 +44,10 @@ const MOST_ROWS = 200;
  * @param {string} caption
  * @param {string[]} heads
  * @param {HTMLElement[][]} rows
+ * @param {number} total if these are only the first rows
  */
-export function listTable(caption, heads, rows) {
-  const more = rows.length - MOST_ROWS;
+export function listTable(caption, heads, rows, total = rows.length) {
+  const more = total - Math.min(rows.length, MOST_ROWS);
   const lines = rows.slice(0, MOST_ROWS).map((cells) => {
     for (const [place, made] of cells.entries()) made.dataset.label = heads[place];
     return row(cells);
@@ -59,8 +60,8 @@ export function listTable(caption, heads, rows) {
 const MOST_FAULTS_SHOWN = 20;
 
 /** Returns a list of the first faults, and how many more there are. */
-export function faultList(faults) {
-  const more = faults.length - MOST_FAULTS_SHOWN;
+export function faultList(faults, total = faults.length) {
+  const more = total - Math.min(faults.length, MOST_FAULTS_SHOWN);
   return [
     element('ul', {}, faults.slice(0, MOST_FAULTS_SHOWN).map((fault) => element('li', {}, fault))),
     ...(more > 0 ? [element('p', {}, `and ${more} more.`)] : [])];

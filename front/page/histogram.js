@@ -1,8 +1,7 @@
 // The gaps between a candidate's exams, as a table that is a histogram: a row for each gap.
 import { cell, element, listTable, rowHead } from './elements.js';
-import { gapsOf, MOST_GAP, seatedIn } from './layout.js';
+import { gapsOf, MOST_GAP, placesIn, seatedIn } from './layout.js';
 import { numeral } from './numbers.js';
-import { placesIn } from './preview.js';
 import { office } from './state.js';
 
 /** The gaps of a timetable: of those who have a seat in the publication, of those enrolled in a draft. */

@@ -1,13 +1,12 @@
 // What happened to the session: publications, edits and batches, with who made them and when; the
 // difference of two publications; and the way back. The registry's service keeps all of it.
 import { ask, change } from './asking.js';
-import { inverseText } from './changes.js';
 import { confirmFirst } from './confirm.js';
 import { csvText } from './csv.js';
 import { moment } from './dates.js';
 import { byId, cell, download, element, listTable } from './elements.js';
-import { examIdentities } from './identities.js';
 import { showProgress } from './messages.js';
+import { numberOf } from './names.js';
 import { count, numeral } from './numbers.js';
 import { changedRows, People, WHOSE, whose } from './seats.js';
 import { office } from './state.js';
@@ -237,7 +236,8 @@ async function search() {
     await find('');
     return 'All that happened is shown.';
   }
-  const exam = examIdentities(office.names.labels).number(words);
+  const exams = office.names.labels?.exams ?? [];
+  const exam = numberOf(exams.map(({ code }, number) => ({ text: code, number })), words);
   if (exam !== null) {
     return `${count(await find(`?exam=${exam}`), 'entry', 'entries')} about ${office.names.exam(exam)}.`;
   }
@@ -308,13 +308,29 @@ function askForDraft({ number }) {
   }, at));
 }
 
-/** Puts the lines that take a batch back into the form for late changes. */
+const quoted = (field) => (/[",;\r\n]/.test(field) ? `"${field.replaceAll('"', '""')}"` : field);
+
+/** The lines that take changes back, the last one first, by IDs and codes. */
+export function inverseText(changes, { labels, students }) {
+  const ids = new Map(students.map(({ number, id }) => [number, id]));
+  return ['student,exam,action', ...[...changes].reverse().map(({ student, exam, action }) => [
+    ids.get(student) ?? '', labels?.exams[exam].code ?? '', action === 'add' ? 'drop' : 'add',
+  ].map(quoted).join(','))].map((line) => `${line}\n`).join('');
+}
+
+/** Puts the lines that take batches back into the form for late changes. */
+export async function fillInverse(batches) {
+  const changes = [];
+  for (const number of batches) changes.push(...(await ask(`${PATH}/batches/${number}`)).changes);
+  byId('batch').reset();
+  byId('batch-changes').checked = true;
+  byId('batch-lines').value = inverseText(changes.filter(({ acted }) => acted), office.names);
+  byId('batch').dispatchEvent(new Event('input', { bubbles: true }));
+}
+
 function reverse({ number }) {
   showProgress('Reading the batch …', async () => {
-    const { changes } = await ask(`${PATH}/batches/${number}`);
-    byId('batch').reset();
-    byId('batch-lines').value = inverseText(changes.filter(({ acted }) => acted), office.names);
-    byId('batch').dispatchEvent(new Event('input', { bubbles: true }));
+    await fillInverse([number]);
     location.hash = '#late-changes';
     return `The lines that take batch ${number} back are in the form. Check them, then send them.`;
   }, byId('history-found'));

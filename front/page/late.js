@@ -1,32 +1,18 @@
-// The form for late changes: a CSV file of the university's own, checked and shown before it is sent.
+// The form for late changes: a file of the university's own. The registry's service says what it would do,
+// and sends it after somebody has looked. Without a ledger the office gets the file as it is.
 import { change } from './asking.js';
-import {
-  batchTexts, changesOfList, effectOf, inverseText, linesIn, textOfAll,
-} from './changes.js';
-import { confirmFirst } from './confirm.js';
-import { byId, element, faultList } from './elements.js';
+import { ACTIONS, COLUMNS } from './columns.js';
+import { moment } from './dates.js';
+import { byId, element } from './elements.js';
+import { fillInverse } from './history.js';
 import { atField, FormFault, showProgress } from './messages.js';
 import { count, numeral } from './numbers.js';
-import { showPreview } from './preview.js';
-import { refusalText } from './refusals.js';
-import { batchPath, breachesAfter, numbersOf } from './service.js';
+import { effectText, KINDS, showPlan } from './preview.js';
+import { faultsOf, packed, workedOn } from './service.js';
 import { office } from './state.js';
 
-// A list that drops more than one in so many enrolments, or has so many new students, is asked about.
-const MOST_CHANGED = 10;
-
-function effectText({ effect: { add, drop, there, absent }, kept, fresh }) {
-  return [`${numeral(add)} to add`, `${numeral(drop)} to drop`, there && `${numeral(there)} already there`,
-    absent && `${numeral(absent)} not enrolled`, kept.length && `${numeral(kept.length)} kept`,
-    fresh.length && count(fresh.length, 'new student'),
-  ].filter(Boolean).join(', ');
-}
-
-/** Changes with the numbers that the ledger gave to new students. */
-const renumbered = (changes, fresh, numbers) => {
-  const given = new Map(fresh.map(({ number, id }) => [number, numbers[id]]));
-  return changes.map((one) => ({ ...one, student: given.get(one.student) ?? one.student }));
-};
+const PATH = '/-/registry/changes';
+const MOST_BYTES = 4_000_000;
 
 /** Proposes a number of nine digits: year, month, day, hour and minute; always above the last one. */
 function proposedNumber(last) {
@@ -51,141 +37,147 @@ function reset() {
   forget();
 }
 
-// ---- Checking
-
-/** The lines to check: a file or a text, as text too. */
-async function givenLines() {
+/** The file that is chosen, or the lines that are pasted, as one. */
+function givenFile() {
   const file = byId('batch-file').files[0];
   const pasted = byId('batch-lines').value;
   if (Boolean(file) === Boolean(pasted)) {
     throw new FormFault(file ? 'Choose a file or paste lines, not both.'
       : 'Choose a file, or paste lines.', 'batch-lines');
   }
-  return { file, text: file ? await file.text() : pasted };
+  return file ?? new Blob([`${pasted.trimEnd()}\n`]);
 }
 
-/** What lines would do, if they have no fault, and the bodies of their batches. */
-function checkedLines({ file, text }) {
-  const { isList, changes: listed, fresh, faults } = linesIn(text, office.names, office.session,
-    { takesNew: Boolean(office.service?.ledger), isWhole: byId('batch-whole').checked });
-  if (faults.length) {
-    throw new FormFault(`Nothing was sent: ${count(faults.length, 'fault')}.`, fieldOfLines(),
-      faultList(faults));
+function chosenKind() {
+  const kind = Object.keys(KINDS).find((one) => byId(`batch-${one}`).checked);
+  if (!kind) throw new FormFault('Say first which it is: changes, or the whole list.', 'batch-changes');
+  return kind;
+}
+
+// ---- Checking
+
+/** The reply of the service on a file. */
+async function replyOn(words, kind, file, more = {}) {
+  const body = new FormData();
+  const content = await packed(file);
+  if (content.size > MOST_BYTES) throw new FormFault('This file is too large.', fieldOfLines());
+  body.append('kind', kind);
+  for (const [name, values] of Object.entries(more)) {
+    for (const value of [values].flat()) body.append(name, value);
   }
-  const candidates = office.session?.candidates ?? [];
-  const { changes, kept } = isList ? changesOfList(listed, office.names, candidates)
-    : { changes: listed, kept: [] };
-  // A file that has the office's own form goes byte for byte: under its number no other bytes are
-  // taken again.
-  const plain = text.replace(/^\ufeff/, '').replaceAll('\r\n', '\n').trimEnd();
-  const bodies = batchTexts(changes);
-  const isPlain = bodies.length === 1 && plain === bodies[0].trimEnd();
-  return { isList, kept, fresh, changes, effect: effectOf(changes, candidates),
-    bodies: isPlain ? [file ?? text] : bodies };
+  body.append('file', content, 'late.csv');
+  return workedOn(words, PATH, body);
 }
 
-/** Which rules the first timetable would break after some changes; null if nobody says it. */
-async function breachesOf({ effect: { acting } }) {
-  const [timetable] = office.timetables;
-  if (!timetable || !acting.length) return [];
-  return breachesAfter(office.service, textOfAll(acting, office.session?.candidates ?? []), timetable.number);
-}
-
-async function check(load) {
-  const lines = await givenLines();
-  await load();
-  const checked = checkedLines(lines);
-  const { effect, bodies, isList } = checked;
-  const breaches = await breachesOf(checked);
-  office.batch.checked = checked;
-  showPreview(checked, breaches, office);
-  byId('batch-effect').textContent = `${effectText(checked)}.`;
-  byId('batch-preview').hidden = false;
-  byId('batch-send').hidden = isList && !effect.acting.length && !checked.fresh.length;
-  const number = byId('batch-number').value;
-  byId('batch-send').textContent = bodies.length > 1 ? `Send ${bodies.length} batches from ${number} on`
-    : `Send batch ${number}`;
+async function check() {
+  forget();
+  const kind = chosenKind();
+  const file = givenFile();
+  const draft = office.timetables[0]?.number;
+  const plan = await replyOn('Nothing was checked.', kind, file, draft ? { draft } : {}).catch(throwFault);
+  if (plan.faults) {
+    throw new FormFault(`Nothing was sent: ${count(plan.count, 'fault')}.`, fieldOfLines(), faultsOf(plan));
+  }
+  office.batch.checked = { kind, file, plan };
+  showPlan(plan, office);
   byId('batch-send').focus();
-  return `Checked: ${effectText(checked)}. Nothing is sent yet.`;
+  return `Checked. Nothing is sent yet. ${effectText(plan)}`;
 }
 
 // ---- Sending
 
-/** Asks first if a list would change so much that it may be another one. */
-function askAndSend(load) {
-  const { isList, effect, fresh } = office.batch.checked;
-  const sending = () => showProgress(`Sending batch ${byId('batch-number').value} …`, () => send(load),
-    byId('batch-check'));
-  const enrolments = `${numeral(effect.drop)} enrolments`;
-  const [words, all] = [
-    [`Drop ${enrolments}`, office.session?.candidates.flat().length, effect.drop],
-    [`Add ${count(fresh.length, 'student')}`, office.names.students.length, fresh.length],
-  ].find(([, most, number]) => isList && MOST_CHANGED * Number(number) > Number(most)) ?? [];
-  if (!words) {
-    sending();
-    return;
-  }
-  confirmFirst(`${words}?`, [element('p', {}, `These are more than a tenth of all ${
-    numeral(all)}. Is this the whole list of this session?`)], `${words}`, sending);
+/** Which guards somebody has looked at: all, or a fault at the first one that isn't ticked. */
+function agreedTo({ guards }) {
+  const open = guards.find(({ name }) => !byId(`guard-${name}`).checked);
+  if (open) throw new FormFault('Look at this first, and tick it.', `guard-${open.name}`);
+  return guards.map(({ name }) => name);
 }
 
-/** The bodies of the batches and the changes, after new students have their numbers. */
-async function withNumbers({ bodies, changes, effect, fresh }) {
-  if (!fresh.length) return { bodies, acting: effect.acting };
-  const numbers = await numbersOf(fresh);
-  return { bodies: changes.length ? batchTexts(renumbered(changes, fresh, numbers)) : [],
-    acting: renumbered(effect.acting, fresh, numbers) };
+/** What others sent since a plan was made, and a button that plans again. */
+function otherPlan({ since }) {
+  const again = element('button', { type: 'button' }, 'Check again');
+  again.addEventListener('click', () => byId('batch-check').click());
+  return new FormFault('Nothing was sent: it would do something else by now.', fieldOfLines(), [
+    ...since.map(({ number, by, at, added, dropped }) => element('p', {}, `${by} sent batch ${number} on `,
+      moment(new Date(at)), `: ${numeral(added ?? 0)} added, ${numeral(dropped ?? 0)} dropped.`)),
+    element('p', {}, again)]);
 }
 
-const sendOne = (number, body, before) => atField(fieldOfLines(), async () => {
-  try {
-    return await change([before, `Batch ${number} was refused.`].filter(Boolean).join(' '),
-      batchPath(office.service, number), 'PUT', body);
-  } catch (refusal) {
-    throw refusal.error === 'batch-differs' ? new FormFault(
-      refusalText(refusal, office.names), 'batch-number') : refusal;
-  }
-});
+/** Throws a refusal as a fault of the field that it is about. */
+function throwFault(refusal) {
+  if (refusal.error === 'plan-differs') throw otherPlan(refusal.answer);
+  const field = refusal.error === 'batch-differs' ? 'batch-number' : fieldOfLines();
+  return atField(field, () => { throw refusal; });
+}
+
+const acceptedText = (batches, { added, dropped, unchanged }) => `${batches.length > 1
+  ? `${batches.length} batches from ${batches[0]} on are` : `Batch ${batches[0]} is`} accepted: ${
+  numeral(added)} added, ${numeral(dropped)} dropped, ${numeral(unchanged)} unchanged.`;
+
+function offerInverse(batches) {
+  byId('batch-inverse').hidden = !batches.length;
+  byId('batch-inverse').textContent = `Reverse batch ${batches[0]} …`;
+  byId('batch-inverse').onclick = () => showProgress('Reading the batch …', async () => {
+    reset();
+    await fillInverse(batches);
+    byId('batch-lines').focus();
+    return 'The lines that take it back are in the form. Check them, then send them.';
+  }, byId('batch-check'));
+}
 
 async function send(load) {
-  const first = Number(byId('batch-number').value);
-  const added = office.batch.checked.fresh.length;
-  const { bodies, acting } = await withNumbers(office.batch.checked);
-  const done = { added: 0, dropped: 0, unchanged: 0 };
-  for (const [place, body] of bodies.entries()) {
-    const answer = await sendOne(first + place, body, place && `Batch ${first} to ${
-      first + place - 1} were accepted.`);
-    for (const what of Object.keys(done)) done[what] += answer[what];
-  }
-  office.batch.last = Math.max(office.batch.last, first + bodies.length - 1);
+  const { kind, file, plan } = office.batch.checked;
+  const { digest, turn } = plan;
+  const more = { digest, turn, number: byId('batch-number').value, agreed: agreedTo(plan) };
+  const { sent, said } = await replyOn('Nothing was sent.', kind, file, more).catch(throwFault);
+  office.batch.last = Math.max(office.batch.last, ...sent.batches);
   reset();
-  offerInverse(first, acting);
   await load();
+  offerInverse(sent.batches);
   byId('status').focus();
-  const counts = Object.entries(done).map(([what, number]) => `${numeral(number)} ${what}`);
-  const newOnes = added ? `${count(added, 'new student')}. ` : '';
-  if (!bodies.length) return newOnes.trim();
-  const which = bodies.length > 1 ? `${bodies.length} batches from ${first} on are` : `Batch ${first} is`;
-  return `${newOnes}${which} accepted: ${counts.join(', ')}.`;
+  return [...said.map((line) => `Left from before: ${line}.`),
+    sent.new && `${count(sent.new, 'new student')}.`,
+    sent.batches.length && acceptedText(sent.batches, sent)].filter(Boolean).join(' ')
+    || 'There was nothing to send.';
 }
 
-function offerInverse(number, acting) {
-  byId('batch-inverse').hidden = !acting.length;
-  byId('batch-inverse').textContent = `Reverse batch ${number} …`;
-  byId('batch-inverse').onclick = () => {
-    reset();
-    byId('batch-lines').value = inverseText(acting, office.names);
-    byId('batch-lines').focus();
-  };
+/** Sends a file in the office's own form. */
+async function sendAsItIs(load) {
+  const number = Number(byId('batch-number').value);
+  const file = givenFile();
+  const done = await change(`Batch ${number} was refused.`, `/batches/${number}`, 'PUT', file)
+    .catch(throwFault);
+  office.batch.last = Math.max(office.batch.last, number);
+  reset();
+  await load();
+  byId('status').focus();
+  return acceptedText([number], done);
 }
+
+// ---- The form
+
+/** Shows the form for a session with a ledger or without. */
+export function showLateForm() {
+  const hasLedger = Boolean(office.service?.ledger);
+  for (const id of ['batch-kinds', 'batch-format', 'batch-columns']) byId(id).hidden = !hasLedger;
+  byId('batch-plain').hidden = hasLedger;
+  byId('batch-check').textContent = hasLedger ? 'Check' : 'Send as it is';
+  if (!hasLedger) byId('batch-inverse').hidden = true;
+}
+
+const listed = (names) => Object.entries(names).flatMap(([name, others]) => [
+  element('dt', {}, name), element('dd', {}, others.filter((one) => one !== name).join(', '))]);
 
 /** Sets up the form; `load` reads everything again. */
 export function setUpLateChanges(load) {
+  byId('batch-columns').querySelector('dl').replaceChildren(...listed(COLUMNS), ...listed(ACTIONS));
   byId('batch').addEventListener('input', forget);
   byId('batch').addEventListener('submit', (event) => {
     event.preventDefault();
-    showProgress('Checking the lines …', () => check(load), byId('batch-check'));
+    if (office.service?.ledger) showProgress('Reading the file …', check, byId('batch-check'));
+    else showProgress('Sending the file …', () => sendAsItIs(load), byId('batch-check'));
   });
-  byId('batch-send').addEventListener('click', () => askAndSend(load));
+  byId('batch-send').addEventListener('click', () => showProgress(
+    `Sending batch ${byId('batch-number').value} …`, () => send(load), byId('batch-check')));
   reset();
 }

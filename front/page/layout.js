@@ -10,6 +10,15 @@ import { examsByStudent } from './findings.js';
 export const MOST_GAP = 16;
 const SHADES = 8;
 
+/** Where each exam of a timetable is: its period and its room. */
+export function placesIn(timetable) {
+  if (!timetable) return new Map();
+  return new Map(timetable.uses
+    ? timetable.uses.flatMap(({ period, room, exams }) => exams.map((exam) => [exam, { period, room }]))
+    : timetable.places.filter(({ period }) => period !== null)
+      .map(({ exam, period, room }) => [exam, { period, room }]));
+}
+
 /** The days of periods: each with its date, its first period and how many it has, as they are numbered. */
 export function daysOfPeriods(periods) {
   const days = [];

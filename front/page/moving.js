@@ -3,12 +3,12 @@
 import { dayInShort, time } from './dates.js';
 import { makeAgain, makeEdit, stepText } from './edits.js';
 import { byId, element } from './elements.js';
+import { placesIn } from './layout.js';
 import { showProgress } from './messages.js';
 import { count, numeral } from './numbers.js';
 import { focusPlace, markPlaces, markTarget } from './picture.js';
 import { focusPlaceList, showPlaceList } from './placelist.js';
 import { differenceMark, forbidText, periodsOf, pointsText, readOptions, sharedByPeriod } from './places.js';
-import { placesIn } from './preview.js';
 import { keepDraft } from './reading.js';
 import { addressOf } from './sections.js';
 import { office, openTimetable } from './state.js';

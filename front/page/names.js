@@ -1,5 +1,31 @@
-// What a session's numbers are called.
+// What a session's numbers are called, and how names are compared in searches.
 import { dayInShort, time } from './dates.js';
+
+// Letters that aren't put together of a plain letter and a mark.
+const LETTERS = { ł: 'l', ø: 'o', đ: 'd', ð: 'd', þ: 'th', ß: 'ss', æ: 'ae', œ: 'oe', ı: 'i' };
+
+/**
+ * A text without capital letters, accents and apostrophes, for searches.
+ * @param {string} text
+ */
+export function fold(text) {
+  const plain = text.normalize('NFD').toLowerCase().replace(/[\p{M}'’‘ʼ`´"“”„]/gu, '');
+  return plain.replace(/[łøđðþßæœı]/g, (letter) => LETTERS[letter]);
+}
+
+const plain = (text) => fold(text.trim()).replace(/^0+(?=\d+$)/, '');
+
+/**
+ * The number of what has this ID or code, or null. Capital and small letters, and zeros that a spreadsheet
+ * took, don't matter if only one is alike.
+ * @param {{text: string, number: number}[]} known
+ * @param {string} text
+ */
+export function numberOf(known, text) {
+  const alike = known.filter((one) => plain(one.text) === plain(text));
+  const exact = alike.find((one) => one.text === text.trim());
+  return (exact ?? (alike.length === 1 ? alike[0] : null))?.number ?? null;
+}
 
 /** Names of exams and rooms: those of the labels, or numbers if there are none. */
 export class Names {

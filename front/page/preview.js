@@ -1,106 +1,92 @@
-// What late changes would do, with names: shown before they are sent.
+// What late changes would do, as the registry's service says it: shown before they are sent.
 import { dayInShort, time } from './dates.js';
 import { byId, cell, element, listTable, rowHead } from './elements.js';
-import { crowdedExams, roomsOf } from './findings.js';
-import { count } from './numbers.js';
+import { count, numeral } from './numbers.js';
 
-/** Where each exam of a timetable is: its period and its room. */
-export function placesIn(timetable) {
-  if (!timetable) return new Map();
-  return new Map(timetable.uses
-    ? timetable.uses.flatMap(({ period, room, exams }) => exams.map((exam) => [exam, { period, room }]))
-    : timetable.places.filter(({ period }) => period !== null)
-      .map(({ exam, period, room }) => [exam, { period, room }]));
+/** The kinds of files, and what each is called. */
+export const KINDS = { changes: 'Changes', list: 'The whole list' };
+const VERBS = [['drops', 'adds', 'enters'], ['drop', 'add', 'enter']];
+
+/**
+ * What a plan changes, in words: as it does it, or as it is asked to.
+ * @param {any} plan
+ * @param {string[]} verbs
+ */
+function deeds({ counts }, [drops, adds, enters]) {
+  return [counts.dropped && `${drops} ${count(counts.dropped, 'enrolment')} of ${
+    count(counts.students_dropped, 'student')}`,
+  counts.added && `${adds} ${count(counts.added, 'enrolment')}`,
+  counts.new && `${enters} ${count(counts.new, 'new student')}`].filter(Boolean).join(', ');
 }
 
-/** The candidates of each exam after some changes, as sets of those exams that change. */
-function candidatesAfter(acting, candidates) {
-  const after = new Map();
-  for (const { student, exam, action } of acting) {
-    if (!after.has(exam)) after.set(exam, new Set(candidates[exam]));
-    if (action === 'add') after.get(exam).add(student);
-    else after.get(exam).delete(student);
-  }
-  return (exam) => after.get(exam) ?? candidates[exam];
-}
-
-/** The pairs of exams at one time that some changes give a student, by the breaches after them. */
-export function clashesOf(acting, candidates, breaches) {
-  const taking = candidatesAfter(acting, candidates);
-  const sets = new Map();
-  const takes = (exam, student) => {
-    if (!sets.has(exam)) sets.set(exam, new Set(taking(exam)));
-    return sets.get(exam).has(student);
-  };
-  const clashes = new Map();
-  for (const { rule, exam, other } of breaches) {
-    for (const one of rule === 'Clash' ? [exam, other] : []) {
-      clashes.set(one, [...(clashes.get(one) ?? []), [exam, other]]);
-    }
-  }
-  const found = acting.filter(({ action }) => action === 'add').flatMap(({ student, exam }) => (
-    (clashes.get(exam) ?? []).filter((exams) => exams.every((one) => takes(one, student)))
-      .map((exams) => ({ student, exams }))));
-  return [...new Map(found.map((one) => [`${one.student} ${one.exams}`, one])).values()];
-}
-
-/** The rooms that are too small after some changes, by the breaches after them, if an exam there grows. */
-export function fullRoomsOf(acting, candidates, timetable, breaches) {
-  const taking = candidatesAfter(acting, candidates);
-  const grown = new Set(acting.filter(({ action }) => action === 'add').map(({ exam }) => exam));
-  return roomsOf(crowdedExams(breaches), placesIn(timetable), (exam) => [...taking(exam)].length)
-    .filter(({ exams }) => exams.some((exam) => grown.has(exam)));
+/** What a plan does, and which kind of file it is of. */
+export function effectText(plan) {
+  const { already, kept } = plan.counts;
+  return `${[`${KINDS[plan.kind]}: ${deeds(plan, VERBS[0]) || 'changes nothing'}`,
+    already && `${numeral(already)} so already`, kept && `${numeral(kept)} kept as changed here`,
+  ].filter(Boolean).join('; ')}.`;
 }
 
 const below = (words) => words && element('span', { class: 'below' }, words);
+const head = ({ id, name }) => (name ? rowHead(name, below(id)) : rowHead(id));
 
-/** Names of students, by their numbers. */
-function peopleOf({ names }, fresh) {
-  const people = new Map([...names.students, ...fresh].map((student) => [student.number, student]));
-  return (number) => {
-    const student = people.get(number);
-    return student?.name ? rowHead(student.name, below(student.id))
-      : rowHead(student?.id ?? `Candidate ${number}`);
+function table(caption, heads, rows, total = rows.length) {
+  return total ? [element('h3', {}, `${caption} (${numeral(total)})`),
+    ...listTable(caption, heads, rows, total)] : [];
+}
+
+/** What has to be looked at before a plan is sent: a tick for each. */
+const guardsOf = ({ guards }) => guards.map(({ name, words, first }) => element('p', { class: 'choice' },
+  element('input', { type: 'checkbox', id: `guard-${name}` }),
+  element('label', { for: `guard-${name}` }, `${words[0].toUpperCase()}${words.slice(1)}${
+    first.length ? `: ${first.join(', ')}` : ''}. That is meant.`)));
+
+/** What a plan does to the first timetable. */
+function consequences({ timetable }, { names, session }, exam) {
+  const period = (number) => {
+    const { date, start } = session.periods[number];
+    return cell(dayInShort(date), ', ', time(start));
   };
-}
-
-function table(caption, heads, rows) {
-  return rows.length ? [element('h3', {}, `${caption} (${rows.length})`), ...listTable(caption, heads, rows)]
-    : [];
-}
-
-function madeText({ at, by }) {
-  return at ? `changed here on ${dayInShort(at.slice(0, 10)).textContent} by ${by}` : 'changed here';
-}
-
-/** Shows whom changes add and drop, and what of the first timetable breaks rules then, if that is known. */
-export function showPreview({ effect, kept, fresh }, breaches, office) {
-  const { names, session, timetables } = office;
-  const head = peopleOf(office, fresh);
-  const exam = (number) => cell(names.exam(number), below(names.examTitle(number)));
-  const lines = (changes) => changes.map((change) => [head(change.student), exam(change.exam)]);
-  const [timetable] = timetables;
-  const of = (action) => effect.acting.filter((change) => change.action === action);
-  const place = ({ period, room }) => {
-    const { date, start } = session.periods[period];
-    return [cell(dayInShort(date), ', ', time(start)), cell(names.roomInBuilding(room))];
-  };
-  byId('batch-note').hidden = breaches !== null;
-  byId('batch-lists').replaceChildren(
-    ...table('New students', ['Candidate'], fresh.map(({ number }) => [head(number)])),
-    ...table('Added', ['Candidate', 'Exam'], lines(of('add'))),
-    ...table('Dropped', ['Candidate', 'Exam'], lines(of('drop'))),
-    ...table(`Two exams at one time, in ${timetable?.name}`, ['Candidate', 'Exam', 'Exam'],
-      clashesOf(effect.acting, session.candidates, breaches ?? []).map(({ student, exams }) => (
-        [head(student), ...exams.map(exam)]))),
-    ...table(`Rooms that are too small, in ${timetable?.name}`, ['Room', 'Period', 'Candidates'],
-      fullRoomsOf(effect.acting, session.candidates, timetable, breaches ?? []).map((use) => [
-        rowHead(names.roomInBuilding(use.room)), place(use)[0],
+  if (!timetable) return [];
+  // The page may not have read it yet.
+  const name = timetable.draft ? `Draft ${timetable.draft}` : 'Published';
+  return [
+    ...table(`Two exams at one time, in ${name}`, ['Candidate', 'Exam', 'Exam'],
+      timetable.overlaps.map((one) => [head(one), exam(one.exam), exam(one.other)])),
+    ...table(`Rooms that are too small, in ${name}`, ['Room', 'Period', 'Candidates'],
+      timetable.rooms.map((use) => [rowHead(names.roomInBuilding(use.room)), period(use.period),
         cell(`${count(use.needed, 'candidate')}, ${count(session.capacities[use.room], 'seat')}`)])),
-    ...table('Kept as they were changed here', ['Candidate', 'Exam', 'Why'], kept.map((one) => [
-      head(one.student), exam(one.exam),
-      cell(`${one.action === 'add' ? 'added' : 'dropped'}, ${madeText(one)}`)])),
-    ...table('Nothing to do', ['Candidate', 'Exam', 'Why'], effect.already.map((one) => [
-      head(one.student), exam(one.exam),
-      cell(one.action === 'add' ? 'enrolled already' : 'not enrolled')])));
+    ...(timetable.seatless ? [element('p', {}, `${count(timetable.seatless, 'enrolment')} without a seat `
+      + 'until the timetable is published again.')] : [])];
+}
+
+function madeText({ action, at, by }) {
+  return [action === 'add' ? 'added' : 'dropped', ', changed here on ', dayInShort(at.slice(0, 10)),
+    ` by ${by}`];
+}
+
+/** Shows whom a plan adds and drops, what that does to the first timetable, and what to look at. */
+export function showPlan(plan, office) {
+  const { names, timetables } = office;
+  const { counts } = plan;
+  const exam = (number) => cell(names.exam(number), below(names.examTitle(number)));
+  const lines = (rows) => rows.map((one) => [head(one), exam(one.exam)]);
+  byId('batch-effect').textContent = effectText(plan);
+  byId('batch-note').hidden = plan.timetable !== null || !timetables.length;
+  byId('batch-guards').replaceChildren(...guardsOf(plan));
+  byId('batch-lists').replaceChildren(
+    ...table('Dropped', ['Candidate', 'Exam'], lines(plan.dropped), counts.dropped),
+    ...table('Added', ['Candidate', 'Exam'], lines(plan.added), counts.added),
+    ...table('New students', ['Candidate'], plan.new.map((one) => [head(one)]), counts.new),
+    ...consequences(plan, office, exam),
+    ...table('Kept as they were changed here', ['Candidate', 'Exam', 'Why'], plan.kept.map((one) => [
+      head(one), exam(one.exam), cell(...madeText(one))]), counts.kept),
+    ...table('Nothing to do', ['Candidate', 'Exam', 'Why'], plan.already.map((one) => [
+      head(one), exam(one.exam), cell(one.action === 'add' ? 'enrolled already' : 'not enrolled')]),
+    counts.already),
+    ...(plan.report.length ? [element('h3', {}, 'Besides'),
+      element('ul', {}, plan.report.map((line) => element('li', {}, line)))] : []));
+  const deed = deeds(plan, VERBS[1]);
+  byId('batch-send').textContent = `Send ${KINDS[plan.kind].toLowerCase()}${deed && `: ${deed}`}`;
+  byId('batch-preview').hidden = false;
 }

@@ -67,6 +67,7 @@ const REFUSALS = {
   'ledger-differs': 'The office has numbers or batches that the ledger on the server does not know. '
     + 'Please reload this page, and tell the operator what it says at the top.',
   ledger: 'This session has no ledger on the server.',
+  'plan-differs': 'It would do something else by now. Check it again.',
   'files-differ': 'These files aren\'t those that were checked. Check them again.',
   names: 'An ID or a name can\'t be used: it is empty, or has a mark that nobody sees.',
   unreadable: 'The server cannot read the names of this session. Please tell the person who runs it.',

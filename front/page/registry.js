@@ -6,7 +6,7 @@ import { readDrafts } from './drafts.js';
 import { byId } from './elements.js';
 import { setUpHistory, showHistory } from './history.js';
 import { applyOfficeNames, readLabels } from './labels.js';
-import { setUpLateChanges } from './late.js';
+import { setUpLateChanges, showLateForm } from './late.js';
 import { setUpLists, showLists } from './lists.js';
 import { setUpSessionForm } from './loading.js';
 import { showProgress } from './messages.js';
@@ -40,6 +40,7 @@ async function load() {
   if (open) showTimetable(open);
   showSeats(office);
   showLists();
+  showLateForm();
   byId('session').hidden = office.session !== null;
   showSetUp();
   showDraftForm();

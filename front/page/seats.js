@@ -3,9 +3,9 @@ import { ask } from './asking.js';
 import { csvText } from './csv.js';
 import { dayInShort, time } from './dates.js';
 import { byId, cell, download, element, listTable, rowHead } from './elements.js';
-import { fold, studentIdentities } from './identities.js';
 import { daysOfCandidate } from './layout.js';
 import { FormFault, showProgress } from './messages.js';
+import { fold, numberOf } from './names.js';
 import { count, numeral } from './numbers.js';
 import { printSheets, sheetsOf } from './sheets.js';
 
@@ -41,7 +41,7 @@ export class People {
   /** The numbers of the students whose ID or number this is, then of those whose names have these words. */
   found(text) {
     const words = fold(text).split(/\s+/).filter(Boolean);
-    const number = studentIdentities(this.students).number(text.trim())
+    const number = numberOf(this.students.map(({ id, number: one }) => ({ text: id, number: one })), text)
       ?? (/^\d{1,9}$/.test(text.trim()) ? Number(text) : null);
     const named = words.length ? this.students.filter(({ name }) => {
       const folded = fold(name ?? '');

@@ -1,7 +1,7 @@
 // The registry's service, which runs beside the office: it keeps the session's ledger, and has the program
 // judge what the office doesn't.
 import { ask, change, Refusal } from './asking.js';
-import { byId } from './elements.js';
+import { byId, faultList } from './elements.js';
 
 /**
  * The service, whether it has a ledger of this session, and what is wrong between that and the office.
@@ -28,47 +28,41 @@ export function showStanding(service) {
 }
 
 /**
- * The breaches that the service replies; null if it doesn't run, or fails.
+ * Which rules the publication breaks with today's enrolments; null if the service doesn't run, or fails.
  * @param {Service | null} service
- * @param {string} query
- * @param {[] | ['POST', any]} more
  * @returns {Promise<Breach[] | null>}
  */
-async function breachesIn(service, query, ...more) {
+export async function readBreaches(service) {
   if (!service) return null;
   try {
-    return (await ask(`/-/registry/breaches${query}`, ...more)).breaches;
+    return (await ask('/-/registry/breaches')).breaches;
   } catch (refusal) {
     if (refusal instanceof Refusal) return null;
     throw refusal;
   }
 }
 
-/** Which rules the publication breaks with today's enrolments, or null. */
-export const readBreaches = (service) => breachesIn(service, '');
+// Browsers have it since 2023.
+const Packing = /** @type {any} */ (globalThis).CompressionStream;
 
-/**
- * Which rules a timetable would break after a batch, or null.
- * @param {Service | null} service
- * @param {string} batch
- * @param {number | undefined} draft without one it is the publication
- */
-export const breachesAfter = (service, batch, draft) => (
-  breachesIn(service, draft ? `?draft=${draft}` : '', 'POST', batch));
-
-/**
- * The numbers of new students, by their IDs.
- * @param {{id: string, name: string}[]} students
- * @returns {Promise<Record<string, number>>}
- */
-export async function numbersOf(students) {
-  const body = students.map(({ id, name }) => ({ student: id, name }));
-  return (await change('No student was added.', '/-/registry/students', 'POST',
-    JSON.stringify(body))).numbers;
+/** A file, compressed, because the front takes only 4 MB. */
+export function packed(file) {
+  if (!Packing || file.name?.endsWith('.gz')) return file;
+  return new Response(file.stream().pipeThrough(new Packing('gzip'))).blob();
 }
 
-/**
- * Where a batch is sent: to the service, which notes it in the ledger and passes it on; without a ledger
- * to the office.
- */
-export const batchPath = (service, number) => `${service?.ledger ? '/-/registry' : ''}/batches/${number}`;
+/** Returns the service's reply on files; asks again as long as it works on them. */
+export async function workedOn(words, path, body) {
+  let said = await change(words, path, 'POST', body);
+  while (said.working) said = await change(words, `${path}/${said.working}`);
+  return said;
+}
+
+function faultText({ line, column, words }) {
+  const place = [line && `line ${line}`, column].filter(Boolean).join(', ');
+  const text = `${place}${place && ': '}${words}`;
+  return `${text[0].toUpperCase()}${text.slice(1)}`;
+}
+
+/** A list of the faults that the service found in a file. */
+export const faultsOf = ({ faults, count }) => faultList(faults.map(faultText), count);

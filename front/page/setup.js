@@ -1,11 +1,11 @@
 // A session from five CSV files: the registry's service checks them as the tools do and says what is in
 // them; then they are loaded, and each exam is given to its department. A further export brings names.
-import { change } from './asking.js';
 import { confirmFirst } from './confirm.js';
 import { byId, element, faultList } from './elements.js';
 import { atField, FormFault, showProgress } from './messages.js';
 import { count } from './numbers.js';
 import { setOwnersOfNames } from './owners.js';
+import { packed, workedOn } from './service.js';
 import { office } from './state.js';
 
 const PATH = '/-/registry/session';
@@ -59,15 +59,6 @@ export function faultOfChoice({ missing, twice, others }) {
     others.length && `These are none of the five: ${others.join(', ')}.`].filter(Boolean).join(' ');
 }
 
-// Browsers have it since 2023.
-const Packing = /** @type {any} */ (globalThis).CompressionStream;
-
-/** A file, compressed, because the front takes only MOST_BYTES. */
-function packed(file) {
-  if (!Packing || file.name.endsWith('.gz')) return file;
-  return new Response(file.stream().pipeThrough(new Packing('gzip'))).blob();
-}
-
 /** The five files as the body of a request; with the digest of what was checked. */
 async function bodyOf(found, checked = null) {
   const body = new FormData();
@@ -80,13 +71,6 @@ async function bodyOf(found, checked = null) {
   if (bytes > MOST_BYTES) throw new FormFault('These files are too large.', 'csv-files');
   if (checked) body.append('checked', checked);
   return body;
-}
-
-/** Returns the service's reply on these files; asks again as long as it works on them. */
-async function replyOn(words, body) {
-  let said = await change(words, PATH, 'POST', body);
-  while (said.working) said = await change(words, `${PATH}/${said.working}`);
-  return said;
 }
 
 // The files that were checked, and their digest.
@@ -104,7 +88,7 @@ async function check() {
   const { found, ...choice } = filesByKind([...byId('csv-files').files]);
   const fault = faultOfChoice(choice);
   if (fault) throw new FormFault(fault, 'csv-files');
-  const said = await replyOn('Nothing was checked.', await bodyOf(found));
+  const said = await workedOn('Nothing was checked.', PATH, await bodyOf(found));
   if (!said.faults.length) return showFound(said, found);
   throw new FormFault(`${wording().refused}: ${count(said.faults.length, 'fault')}.`, 'csv-files',
     faultList(said.faults));
@@ -117,7 +101,7 @@ function hidePreview() {
 
 /** Loads what was checked, shows it, and gives each exam to its department; or brings names up to date. */
 async function loadChecked(load) {
-  const { loaded, summary } = await replyOn(wording().failed, await bodyOf(last.found, last.digest));
+  const { loaded, summary } = await workedOn(wording().failed, PATH, await bodyOf(last.found, last.digest));
   hidePreview();
   byId('csv-session').reset();
   await load();

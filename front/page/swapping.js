@@ -2,10 +2,10 @@
 // whether a rule forbids it.
 import { stepOf } from './edits.js';
 import { byId, element } from './elements.js';
+import { placesIn } from './layout.js';
 import { count } from './numbers.js';
 import { pointsText } from './places.js';
 import { pointsAfter } from './points.js';
-import { placesIn } from './preview.js';
 import { office } from './state.js';
 import { examsWith } from './tables.js';
 

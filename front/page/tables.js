@@ -2,7 +2,7 @@
 import { csvText } from './csv.js';
 import { dayInShort, endTime, time } from './dates.js';
 import { byId, cell, download, element, listTable, rowHead } from './elements.js';
-import { fold } from './identities.js';
+import { fold } from './names.js';
 import { count } from './numbers.js';
 import { addressOf } from './sections.js';
 

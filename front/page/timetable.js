@@ -4,14 +4,13 @@ import { dayInShort, time } from './dates.js';
 import { byId, element, fill } from './elements.js';
 import { crowdedExams } from './findings.js';
 import { histogramOf } from './histogram.js';
-import { differingPlaces, loadOf, roomsInOrder, usesByPlace } from './layout.js';
+import { differingPlaces, loadOf, placesIn, roomsInOrder, usesByPlace } from './layout.js';
 import {
   endMoving, openDraft, pressPlace, putInto, setUpMoving, showPlace, showSteps, startMoving,
 } from './moving.js';
 import { count, numeral } from './numbers.js';
 import { showOverview } from './overview.js';
 import { focusPlace, pictureOf } from './picture.js';
-import { placesIn } from './preview.js';
 import { isPublishable } from './publish.js';
 import { rereadDraft } from './reading.js';
 import { addressOf } from './sections.js';

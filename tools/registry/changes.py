@@ -1,28 +1,19 @@
-"""Late changes of enrolments: of a student system's full list, or of lines that add or drop."""
+"""Late changes of enrolments in the ledger, and their batches."""
 from __future__ import annotations
 
 import dataclasses
 import datetime
-import difflib
 import json
-from collections.abc import Iterable, Iterator, Mapping
+from collections.abc import Iterable, Iterator
 
-from .csv_tables import MOST_LINES_PRINTED, Column, Known, Row
 from .ledger import Ledger, now
-from .session import CODE, STUDENT, Session
 
 HEADER = b"student,exam,action\n"
 MOST_BATCH, MOST_NUMBER = 1_048_576, 999_999_999
-# Where changes come from: a full list, lines of a registrar, the registry's page, or another way
-# than by these tools. What marks numbers that were given changes nothing.
+# Where changes come from: a whole list, whoever sends it; a registrar's lines, by the tool or on
+# the registry's page; or another way than by these. What marks numbers that were given changes
+# nothing.
 FILE, HAND, PAGE, OTHER, MARK = "file", "hand", "page", "other", "mark"
-COLUMNS = (Column("student", STUDENT), Column("exam", ("code", *CODE)),
-           Column("name", ("student name", "full name", "candidate name"), False),
-           Column("action", ("change", "status", "type"), False))
-ACTIONS = {"add": ("add", "added", "enrol", "enrols", "enroll", "enrolled", "in", "+"),
-           "drop": ("drop", "dropped", "withdraw", "withdrawn", "withdrew", "remove", "removed",
-                    "delete", "out", "unenrol", "unenroll", "-"),
-           "new": ("new",)}
 Pair = tuple[int, int]
 
 
@@ -59,15 +50,6 @@ class Effect:
     dropped: int
     unchanged: int
     points: dict[str, list[int]]
-
-
-@dataclasses.dataclass
-class Plan:
-    """What a file changes, and what of it is left as it was changed here."""
-
-    changes: list[Change] = dataclasses.field(default_factory=list)
-    kept: dict[Pair, Made] = dataclasses.field(default_factory=dict)
-    new: dict[str, str] = dataclasses.field(default_factory=dict)
 
 
 # ---- What the ledger knows
@@ -204,127 +186,24 @@ def in_batches(changes: list[Change]) -> Iterator[tuple[bytes, list[Change]]]:
         yield b"".join(lines), taken
 
 
-def prepare(ledger: Ledger, changes: list[Change], source: str, by: str) -> list[int]:
-    """Writes the batches of changes into the ledger; returns their numbers, which are in a row."""
-    first, batches = first_number(ledger, datetime.datetime.now()), [*in_batches(changes)]
+def prepare(ledger: Ledger, changes: list[Change], source: str, by: str, first: int | None = None
+            ) -> list[int]:
+    """Writes the batches of changes into the ledger; returns their numbers, which are in a row from
+    this one on."""
+    batches = [*in_batches(changes)]
+    if first is None:
+        first = first_number(ledger, datetime.datetime.now())
     for number, (content, taken) in enumerate(batches, first):
         add_batch(ledger, number, content, source, by, taken)
     return [*range(first, first + len(batches))]
 
 
-# ---- What a file says
-
-def nearest(text: str, names: Mapping[str, str]) -> str:
-    """The ID or code that is most like a text, with its name, in words; or nothing."""
-    named = [one for one, name in names.items() if name.casefold() == text.casefold()]
-    found = named or difflib.get_close_matches(text, names, 1, 0.5)
-    return f". {found[0]} is {names[found[0]] or 'the nearest'}" if found else ""
-
-
-class Reader:
-    """Reads lines with student IDs and codes of exams."""
-
-    def __init__(self, ledger: Ledger, session: Session) -> None:
-        self.names = {student.id: student.name for student in ledger.students()}
-        self.titles = {exam.code: exam.title for exam in session.exams}
-        self.students = Known(ledger.numbers())
-        self.exams = Known({exam.code: number for number, exam in enumerate(session.exams)})
-        self.new: dict[str, str] = {}
-
-    def fault(self, row: Row, column: str, what: str, names: Mapping[str, str]) -> None:
-        text = row.get(column)
-        # A search for the nearest takes a while, and further faults aren't printed.
-        is_shown = len(row.faults.lines) < MOST_LINES_PRINTED
-        row.fault(column, f"{text}: no such {what}{nearest(text, names) if is_shown else ''}"
-                  if text else "the field is empty")
-
-    def exam(self, row: Row) -> int | None:
-        number = self.exams.number(row.one_line("exam"))
-        if number is None:
-            self.fault(row, "exam", "exam", self.titles)
-        return number
-
-    def is_new(self, row: Row) -> bool:
-        return self.students.text(row.one_line("student")) is None
-
-    def add_new(self, row: Row) -> str:
-        """Notes a new student; returns their ID."""
-        student = row.text("student")
-        self.new.setdefault(student, row.one_line("name"))
-        return student
-
-
-def action_of(row: Row) -> str | None:
-    """What a line's action or status means; of a line without one, that the student is enrolled."""
-    word = row.one_line("action").casefold()
-    action = next((name for name, words in ACTIONS.items() if word in words),
-                  None if "action" in row.fields else "add")
-    if action is None:
-        row.fault("action", f"{word!r} is no action; add, drop or new is expected")
-    return action
-
-
-def listed_pairs(rows: list[Row], reader: Reader) -> tuple[set[Pair], set[tuple[str, int]]]:
-    """The enrolments of a full list: of students with numbers, and of new ones by their IDs. Lines
-    whose status says that they ended are none."""
-    known, new = set(), set()
-    for row in rows:
-        if action_of(row) == "drop":
-            continue
-        exam = reader.exam(row)
-        if exam is None:
-            continue
-        if reader.is_new(row):
-            new.add((reader.add_new(row), exam))
-        else:
-            known.add((reader.students.number(row.get("student")) or 0, exam))
-    return known, new
-
-
-def plan_of_list(ledger: Ledger, wanted: set[Pair], found: set[Pair], take_all: bool) -> Plan:
-    """What brings the office to a full list. What was changed here stays, unless all is taken."""
-    plan, base, here = Plan(), base_pairs(ledger), changes_here(ledger)
-    for pair in sorted(wanted ^ found):
-        if (pair in found) != (pair in base) and not take_all and pair in here:
-            plan.kept[pair] = here[pair]
-        else:
-            plan.changes.append(Change(*pair, "add" if pair in wanted else "drop"))
-    # What was changed here and is in the list now as well: the office has it, and the lists too.
-    plan.changes += [Change(*pair, "add" if pair in wanted else "drop")
-                     for pair in sorted((base ^ found) - (wanted ^ found))]
-    return plan
-
-
-def changes_in(rows: list[Row], reader: Reader) -> list[tuple[str, int | None, str]]:
-    """The changes of lines, with students by ID; a new student may have no exam."""
-    changes: list[tuple[str, int | None, str]] = []
-    for row in rows:
-        action = action_of(row)
-        student = reader.students.text(row.one_line("student"))
-        exam = reader.exam(row) if row.get("exam") or action != "new" else None
-        if action is None:
-            continue
-        if action == "new" and student is None:
-            changes.append((reader.add_new(row), exam, "add"))
-        elif action == "new" and student:
-            # A run that was cut off may have entered them already.
-            if reader.names[student] != row.one_line("name"):
-                row.fault("student", f"{student} is {reader.names[student]} already")
-            changes.append((student, exam, "add"))
-        elif student is None and row.get("student") not in reader.new:
-            reader.fault(row, "student", "student", reader.names)
-        else:
-            changes.append((student or row.get("student"), exam, action))
-    return changes
-
-
-def lines_of(plan: Plan, ledger: Ledger) -> list[str]:
-    """The enrolments that stay as they were changed here, in words."""
-    session = ledger.session()
-    people = {student.number: student for student in ledger.students()}
-    return [f"{session.exams[exam].code} of {people[student].name or 'student'} "
-            f"({people[student].id}), {'added' if made.action == 'add' else 'dropped'}, is kept: "
-            f"{made.words()}" for (student, exam), made in plan.kept.items()]
+def is_taken(ledger: Ledger, first: int, changes: list[Change]) -> bool:
+    """Returns whether a batch has one of the numbers that these changes would have."""
+    last = first + sum(1 for _ in in_batches(changes)) - 1
+    found: int = ledger.db.execute("SELECT count(*) FROM batches WHERE number BETWEEN ? AND ?",
+                                   (first, last)).fetchone()[0]
+    return found > 0
 
 
 def counts_in(reply: str) -> str:

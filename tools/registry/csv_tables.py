@@ -17,21 +17,46 @@ MOST_BYTES = 64 * 1024 * 1024
 MOST_NUMBER = 100_000
 MOST_LINES_PRINTED = 50
 SEPARATORS = ",;\t"
+# A text that is written as a formula, so that a spreadsheet leaves its zeros.
+FORMULA = re.compile('^="([^"]*)"$')
+SAID = re.compile('"?sep=([,;\t])"?')
+PACKED, ZIPPED = b"\x1f\x8b", b"PK\x03\x04"
 # What nobody sees: marks that change the direction of the text around them, so that a name reads as
 # another one, marks without a width, with which two IDs look alike, and control characters.
 UNSEEN = re.compile("[\u061c\u200e\u200f\u202a-\u202e\u2066-\u2069\u00ad\u200b\u2060\ufeff"
                     "\x00-\x08\x0b\x0c\x0e-\x1f\x7f-\x9f]")
+# What a spreadsheet makes of a long number, or of one that it adds up with.
+ROUNDED = re.compile(r"[0-9]+([.,][0-9]+)?[Ee][+-][0-9]+|[0-9]+[.,]0+")
+# Signs without a shape that an ID can't have, though a name may need them.
+SHAPELESS = re.compile("[\u034f\u115f\u1160\u17b4\u17b5\u180b-\u180f\u200b-\u200f\u2028-\u202f"
+                       "\u205f-\u206f\u3164\ufe00-\ufe0f\ufeff\uffa0\ufff0-\ufffd"
+                       "\U000e0000-\U000e0fff]")
+
+
+@dataclasses.dataclass(frozen=True)
+class Fault:
+    """What is wrong at a place of a file."""
+
+    file: str
+    line: int | None
+    column: str | None
+    words: str
+
+    def __str__(self) -> str:
+        return "".join([self.file, f", line {self.line}" if self.line else "",
+                        f", {self.column}" if self.column else "", f": {self.words}"])
 
 
 class Faults:
-    """The faults found so far, as lines."""
+    """The faults found so far, as lines, and those of them that have a place."""
 
     def __init__(self) -> None:
         self.lines: list[str] = []
+        self.placed: list[Fault] = []
 
     def add(self, file: str, line: int | None, column: str | None, words: str) -> None:
-        place = "".join([file, f", line {line}" if line else "", f", {column}" if column else ""])
-        self.lines.append(f"{place}: {words}")
+        self.placed.append(Fault(file, line, column, words))
+        self.lines.append(f"{self.placed[-1]}")
 
     def are_of(self, file: str) -> bool:
         return any(re.match(f"{re.escape(file)}[,:]", line) for line in self.lines)
@@ -61,6 +86,10 @@ class Known:
         for text in numbers:
             if text.isascii() and text.isdigit():
                 self.alike.setdefault(without_zeros(text), []).append(text)
+
+    def readings(self, text: str) -> list[str]:
+        """Returns the IDs or codes that a text may mean, if it is none of them."""
+        return [] if text in self.numbers else self.alike.get(without_zeros(text), [])
 
     def text(self, text: str) -> str | None:
         """The ID or code that a text means, or None."""
@@ -124,6 +153,15 @@ class Row:
                                f"(U+{ord(mark[0]):04X})")
         return " ".join(value.split())
 
+    def id(self, column: str) -> str | None:
+        """Returns the field as an ID or a code, in which each sign can be seen; or None."""
+        before, value = len(self.faults.lines), self.text(column)
+        shapeless = None if value.isascii() else SHAPELESS.search(value)
+        if shapeless and len(self.faults.lines) == before:
+            self.fault(column, f"{value!r} has a sign that nobody sees "
+                               f"(U+{ord(shapeless[0]):04X})")
+        return value if len(self.faults.lines) == before else None
+
     def number(self, column: str, most: int = MOST_NUMBER, least: int = 0,
                default: int | None = None) -> int | None:
         """The field as a whole number in its limits, or None; the default if the field is empty."""
@@ -169,26 +207,43 @@ def folded(content: bytes) -> tuple[str, str] | int:
         return content[:fault.start].count(b"\n") + 1
 
 
-def bytes_of(path: pathlib.Path) -> bytes:
-    """The content of a file, which may be compressed; an OSError if it has too many bytes."""
-    with as_caller():
-        opened = path.open("rb")
-    with opened as file:
-        packed = gzip.GzipFile(fileobj=file) if path.suffix == ".gz" else file
-        content = packed.read(MOST_BYTES + 1)
+def content_at(path: pathlib.Path, name: str, faults: Faults) -> bytes | None:
+    """Returns the bytes of a file that the caller may read, or None."""
+    try:
+        with as_caller():
+            opened = path.open("rb")
+        with opened as file:
+            return file.read(MOST_BYTES + 1)
+    except OSError as fault:
+        faults.add(name, None, None, f"cannot be read: {fault.strerror or fault}")
+        return None
+
+
+def unpacked(content: bytes, name: str, faults: Faults) -> bytes | None:
+    """Returns what is in the bytes of a file, which may be compressed, or None."""
+    try:
+        if content.startswith(PACKED):
+            content = gzip.GzipFile(fileobj=io.BytesIO(content)).read(MOST_BYTES + 1)
+    except (OSError, EOFError, zlib.error) as fault:
+        faults.add(name, None, None, f"cannot be read: {fault}")
+        return None
     if len(content) > MOST_BYTES:
-        raise OSError(f"it has more than {MOST_BYTES // 1024 // 1024} MB")
+        faults.add(name, None, None, "cannot be read: it has more than "
+                                     f"{MOST_BYTES // 1024 // 1024} MB")
+        return None
     return content
 
 
-def text_of(path: pathlib.Path, file: str, faults: Faults) -> tuple[str, str] | None:
+def text_of(packed: bytes, file: str, faults: Faults) -> tuple[str, str] | None:
     """The text of a CSV file and its encoding, or None."""
-    try:
-        found = folded(bytes_of(path))
-    except (OSError, EOFError, zlib.error) as fault:
-        words = getattr(fault, "strerror", None) or fault
-        faults.add(file, None, None, f"cannot be read: {words}")
+    content = unpacked(packed, file, faults)
+    if content is None:
         return None
+    if content.startswith(ZIPPED):
+        faults.add(file, None, None, "this is a workbook of a spreadsheet, or another ZIP file; "
+                                     "save the sheet as CSV UTF-8")
+        return None
+    found = folded(content)
     if isinstance(found, int):
         faults.add(file, found, None, "this is neither UTF-8 nor Latin-1 nor UTF-16 text; save the "
                                       "file as CSV UTF-8")
@@ -221,10 +276,12 @@ class Wanted:
 
 @dataclasses.dataclass
 class Table:
-    """The rows of a CSV file without its empty lines, and how it is encoded."""
+    """The rows of a CSV file without its empty lines, how it is encoded, and whether its last line
+    ends."""
 
     rows: list[Row]
     encoding: str = ""
+    ends: bool = True
 
 
 def columns_in(file: str, header: list[str], columns: Iterable[Column], wanted: Wanted,
@@ -249,25 +306,43 @@ def columns_in(file: str, header: list[str], columns: Iterable[Column], wanted: 
 
 def table_in(path: pathlib.Path, file: str, columns: Iterable[Column], wanted: Wanted,
              faults: Faults) -> Table:
-    """The table of a CSV file. With a fault in its header no row is read."""
-    found = text_of(path, file, faults)
+    """The table of a CSV file, which may be compressed."""
+    content = content_at(path, file, faults)
+    return Table([]) if content is None else table_of(content, file, columns, wanted, faults)
+
+
+def separator_in(text: str) -> str:
+    """Returns what separates the fields: what a first line of a spreadsheet such as `sep=;` says,
+    else what the first line has most of."""
+    first = re.split(r"[\r\n]", text, maxsplit=1)[0]
+    said = SAID.fullmatch(first.strip())
+    return said[1] if said else max(SEPARATORS, key=first.count)
+
+
+def table_of(content: bytes, file: str, columns: Iterable[Column], wanted: Wanted,
+             faults: Faults) -> Table:
+    """The table in the bytes of a CSV file. With a fault in its header no row is read."""
+    found = text_of(content, file, faults)
     if found is None:
         return Table([])
     text, encoding = found
-    first = text.partition("\n")[0]
-    lines = csv.reader(io.StringIO(text, newline=""), strict=True,
-                       delimiter=max(SEPARATORS, key=first.count))
+    lines = csv.reader(io.StringIO(text, newline=""), strict=True, delimiter=separator_in(text))
     rows: list[Row] = []
     try:
+        if SAID.fullmatch(re.split(r"[\r\n]", text, maxsplit=1)[0].strip()):
+            next(lines)
         header = [" ".join(name.split()) for name in next(lines, [])]
         wanted.note(header)
         places = columns_in(file, header, columns, wanted, faults).items()
         if faults.are_of(file):
             return Table([], encoding)
+        has_formulas = '="' in text
         for fields in lines:
+            if has_formulas:
+                fields = [FORMULA.sub(r"\1", field.strip()) for field in fields]
             named = {name: fields[place].strip() for name, place in places if place < len(fields)}
             if any(named.values()) or any(field.strip() for field in fields):
                 rows.append(Row(file, lines.line_num, named, faults))
     except csv.Error as fault:
         faults.add(file, lines.line_num, None, f"this is not CSV: {fault}")
-    return Table(rows, encoding)
+    return Table(rows, encoding, text.endswith(("\n", "\r")))

@@ -13,6 +13,8 @@ from .office import are_of_another_session, most_lacking
 
 NOW, STATES, STUDENTS, SIZES = "now", "states", "students.json", "sizes.json"
 SEALED = ("labels.json", STUDENTS, "callers")
+# Why the last list wasn't sent, in words; and whether the last line of the one that was sent ended.
+STOPPED, LAST_LIST = "stopped", "last_list"
 OLD = ("session.exam", "labels.json", "students.json")
 
 
@@ -93,6 +95,29 @@ class Folder:
         digest, path = ledger.digest(), self.path / NOW / STUDENTS
         return ledger.last_state() == (self.current(), digest) and path.exists() and (
             path.read_text(encoding="utf-8") == students_text(ledger, digest))
+
+    def note_stopped(self, lines: list[str]) -> None:
+        """Notes why the last list wasn't sent, for whoever looks in the morning; nothing if it
+        was."""
+        if lines:
+            exchange(self.path / STOPPED, "".join(f"{line}\n" for line in lines))
+        else:
+            (self.path / STOPPED).unlink(missing_ok=True)
+
+    def stopped(self) -> list[str]:
+        """Returns why the last list wasn't sent."""
+        path = self.path / STOPPED
+        return path.read_text(encoding="utf-8").splitlines() if path.exists() else []
+
+    def note_list(self, ends: bool) -> None:
+        """Notes that a list was sent, and whether its last line ended."""
+        self.note_stopped([])
+        exchange(self.path / LAST_LIST, "ends\n" if ends else "doesn't end\n")
+
+    def last_list_ended(self) -> bool:
+        """Returns whether the last line of the last list ended."""
+        path = self.path / LAST_LIST
+        return path.exists() and path.read_text(encoding="utf-8") == "ends\n"
 
     def switch(self, number: int) -> None:
         """Lets `now` lead to a state."""

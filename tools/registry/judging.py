@@ -86,14 +86,21 @@ def after_changes(instance: str, places: list[Place], changes: Iterable[Change])
     return "\r\n".join(lines)
 
 
-def judged(office: Office, draft: int | None, changes: list[Change]) -> list[dict[str, Any]]:
-    """The breaches of a draft, or of the publication, as they would be after some changes: those
-    between exams that have a place."""
+def judged_session(office: Office, draft: int | None, changes: list[Change]
+                   ) -> tuple[list[Place], str, list[dict[str, Any]]]:
+    """Returns the places of a draft or of the publication, the session after some changes, and what
+    it then breaks: breaches between exams that have a place."""
     places, instance = places_and_instance(office, draft)
     if any(change.exam >= len(places) for change in changes):
         raise Refused("there is no such exam", 404, '{"error":"number"}')
     # The program wants a place for each exam. Without candidates it takes no seat in its place.
     solution = "".join(f"{period}, {room}\r\n" for period, room in (
         place or (0, 0) for place in places))
-    found = breaches_of(after_changes(instance, places, changes), solution)
-    return [one for one in found if places[one["exam"]] and places[one["other"]]]
+    then = after_changes(instance, places, changes)
+    return places, then, [one for one in breaches_of(then, solution)
+                          if places[one["exam"]] and places[one["other"]]]
+
+
+def judged(office: Office, draft: int | None, changes: list[Change]) -> list[dict[str, Any]]:
+    """The breaches of a draft, or of the publication, as they would be after some changes."""
+    return judged_session(office, draft, changes)[2]

@@ -11,7 +11,7 @@ import os
 import pathlib
 import sqlite3
 import stat
-from collections.abc import Iterable, Iterator
+from collections.abc import Iterable, Iterator, Mapping
 from contextlib import contextmanager
 
 from .session import TEXTS, Exam, Period, Room, Session
@@ -252,6 +252,12 @@ class Ledger:
             self.db.executemany("UPDATE students SET unasked_since = ? WHERE number = ?", (
                 (now(), student.number) for student in added))
         return added
+
+    def rename_students(self, names: Mapping[str, str], ids: Mapping[str, str]) -> None:
+        """Gives students, by their IDs, other names, then other IDs."""
+        for column, texts in (("name", names), ("id", ids)):
+            self.db.executemany(f"UPDATE students SET {column} = ? WHERE id = ?", (
+                (text, student) for student, text in texts.items()))
 
     def add_state(self, by: str) -> tuple[int, str]:
         """Notes that files of the ledger's state are made; returns its number and digest."""

@@ -15,10 +15,8 @@ EXAMOFFICE is the program, by default examoffice.
 """
 from __future__ import annotations
 
-import concurrent.futures
 import contextlib
 import hashlib
-import itertools
 import json
 import os
 import pathlib
@@ -33,16 +31,20 @@ import flask
 
 from .changes import MARK, PAGE, Change, add_batch, forget_unsent
 from .csv_tables import Faults, Known, Row, first_lines
-from .folder import Folder, exchange
+from .folder import STOPPED, Folder, exchange
 from .history import History, Unsteady, difference, places_of
 from .history import look as look_what_happened
+from .held import Held
 from .judging import judged
+from .late_changes import Asked, Differs, answered, faults_said
+from .late_file import LINES, LIST
 from .ledger import Ledger, NotALedger, locked, now
 from .list_jobs import Busy, Jobs, wanted_in
 from .logged import Log, Logged, settle
-from .meeting import Meeting, look, meet, send_noted
+from .meeting import Meeting, look, meet, send_noted, show
 from .office import TOKEN as TOKEN_NAME
 from .office import Office, OfficeBySocket, Refused
+from .owners import owners_in
 from .published import words_of_last
 from .sending import send_one
 from .setting_up import FILES, Changed, Loaded, set_up
@@ -57,6 +59,7 @@ COMPARED, STANDING = float(os.environ.get("REGISTRY_COMPARED", "60")), "standing
 # After a look that failed the next one waits so long, in seconds.
 PATIENCE = 10
 NAME = re.compile(r"[a-z0-9][a-z0-9_-]*")
+NUMBER = re.compile("[0-9]{1,9}")
 LINE = re.compile(r"0*([0-9]{1,9}),0*([0-9]{1,9}),(add|drop)")
 MOST_NEW, LONGEST = 100_000, 254
 
@@ -155,10 +158,7 @@ def about() -> dict[str, Any]:
 # Whoever sends CSV files waits at most so long, in seconds, and asks again then what came of
 # it: on a machine that does much else, the files of 25,000 names take minutes.
 HELD = float(os.environ.get("REGISTRY_HELD", "20"))
-MOST_ASKED = 8
-worker = concurrent.futures.ThreadPoolExecutor(1)
-asked_for: dict[int, concurrent.futures.Future[dict[str, Any]]] = {}
-question = itertools.count(1)
+loads, plans = Held(HELD), Held(HELD)
 
 
 @app.post("/-/registry/session")
@@ -167,29 +167,69 @@ def new_session() -> tuple[dict[str, Any], int]:
     the names of one that is loaded up to date."""
     files = {name: flask.request.files[name].read() for name in FILES
              if name in flask.request.files}
-    number = next(question)
-    asked_for[number] = worker.submit(set_up, folder().path, office_of(session()),
-                                      log_of(session()), files, user(),
-                                      flask.request.form.get("checked"))
-    asked_for.pop(number - MOST_ASKED, None)
-    return came_of(number)
+    return came_of(loads.begin(session(), set_up, folder().path, office_of(session()),
+                               log_of(session()), files, user(),
+                               flask.request.form.get("checked")))
 
 
 @app.get("/-/registry/session/<int:number>")
 def came_of(number: int) -> tuple[dict[str, Any], int]:
     """What came of CSV files, or that they are still worked at."""
-    if number not in asked_for:
-        return {"error": "unavailable"}, 503
-    concurrent.futures.wait([asked_for[number]], HELD)
-    if not asked_for[number].done():
-        return {"working": number}, 202
     try:
-        found = asked_for[number].result()
+        found = loads.came_of(session(), number)
     except Changed:
         return {"error": "files-differ"}, 409
     except Loaded:
         return {"error": "loaded"}, 409
-    return found, 201 if "loaded" in found else 200
+    return status_of(found, "loaded")
+
+
+def status_of(found: dict[str, Any] | None, made: str) -> tuple[dict[str, Any], int]:
+    """The reply on work, with its status: that something is made, or shown, or goes on."""
+    if found is None:
+        return {"error": "unavailable"}, 503
+    return found, 202 if "working" in found else 201 if made in found else 200
+
+
+# ---- Late changes
+
+@app.post("/-/registry/changes")
+def changes() -> tuple[dict[str, Any], int]:
+    """Answers the plan of a file of late changes; with the plan's digest, sends it."""
+    form, file = flask.request.form, flask.request.files.get("file")
+    if file is None or form.get("kind") not in (LIST, LINES):
+        return {"error": "body"}, 400
+    if not folder().ledger.exists():
+        raise NotALedger("the session has no ledger")
+    draft, turn, number = (int(form[name]) if NUMBER.fullmatch(form.get(name, "")) else None
+                           for name in ("draft", "turn", "number"))
+    asked = Asked(form["kind"], file.read(), user(), draft, form.get("digest"), turn or 0, number,
+                  form.getlist("agreed"))
+    found, office, log = folder(), office_of(session()), log_of(session())
+    meeting = met_with if asked.digest else shown_with
+    return came_of_changes(plans.begin(session(), answered, found, office, asked,
+                                       lambda ledger: meeting(found, ledger, office, log)))
+
+
+@app.get("/-/registry/changes/<int:number>")
+def came_of_changes(number: int) -> tuple[dict[str, Any], int]:
+    """What came of a file of late changes, or that it is still worked at."""
+    try:
+        found = plans.came_of(session(), number)
+    except Differs as fault:
+        return {"error": "plan-differs", "since": fault.since}, 409
+    return status_of(found, "sent")
+
+
+@app.post("/-/registry/owners")
+def owners() -> tuple[dict[str, Any], int]:
+    """Which department owns which exam, as a file says it, or its faults."""
+    file, faults = flask.request.files.get("file"), Faults()
+    if file is None:
+        return {"error": "body"}, 400
+    with reading() as db:
+        found = owners_in(file.read(), "file", Ledger(db), faults)
+    return faults_said(faults) if faults.lines else {"owners": found}, 200
 
 
 # ---- Batches
@@ -210,7 +250,7 @@ def put_batch(number: int) -> flask.Response:
     body, changes = flask.request.get_data(), lines_in(flask.request.get_data())
     with opened() as (found, ledger):
         office = office_of(session())
-        met = met_with(found, ledger, office)
+        met = met_with(found, ledger, office, log_of(session()))
         is_known = ledger.db.execute("SELECT 1 FROM batches WHERE number = ?", (number,)).fetchone()
         if is_known or changes is None:
             # The office knows it, or refuses it.
@@ -231,15 +271,25 @@ def log_of(name: str) -> Log:
     return Log(LOG if LOG and LOG.exists() else None, name)
 
 
-def met_with(found: Folder, ledger: Ledger, office: Office) -> Meeting:
+def met_with(found: Folder, ledger: Ledger, office: Office, log: Log) -> Meeting:
     """Sends what the office lacks. What it refuses of what a run left that was cut off is
     forgotten."""
     try:
-        met = meet(found, ledger, office, log_of(session()))
+        met = meet(found, ledger, office, log)
     except Refused as refusal:
         if refusal.status not in (400, 403, 404, 409, 413):
             raise
-        met = meet(found, ledger, office, log_of(session()))
+        met = meet(found, ledger, office, log)
+    return unless_strange(found, met)
+
+
+def shown_with(found: Folder, ledger: Ledger, office: Office, log: Log) -> Meeting:
+    """What a meeting would come to; nothing is sent."""
+    return unless_strange(found, show(found, ledger, office, log))
+
+
+def unless_strange(found: Folder, met: Meeting) -> Meeting:
+    """Returns a meeting of a ledger and an office that belong together."""
     say_standing(found, met)
     if met.faults:
         raise Strange(met.faults)
@@ -443,13 +493,13 @@ def look_at(name: str, is_only: bool) -> None:
 
 # What is wrong between the ledger and the office of a session, in words.
 standings: dict[str, list[str]] = {}
-# What the log and the ledger were when they were compared with the office last.
-compared: dict[str, list[int]] = {}
+# What the ledger and the log were when they were compared with the office last.
+compared: dict[str, list[list[int]]] = {}
 
 
 def say_standing(found: Folder, met: Meeting) -> None:
     """Notes what is wrong between a ledger and its office; the package's status reads it."""
-    lines = first_lines([*met.faults, *met.warnings], "lines")
+    lines = first_lines([*met.faults, *met.warnings, *found.stopped()], "lines")
     standings[found.path.name] = lines
     path = found.path / STANDING
     if lines:
@@ -458,22 +508,24 @@ def say_standing(found: Folder, met: Meeting) -> None:
         path.unlink(missing_ok=True)
 
 
-def marks_of(found: Folder) -> list[int]:
-    """What differs when the log or the ledger has changed, or the ledger was put back."""
-    paths = [found.ledger, *([LOG] if LOG and LOG.exists() else [])]
-    return [number for path in paths for status in [path.stat()]
-            for number in (status.st_ino, status.st_size, status.st_mtime_ns)]
+def marks_of(path: pathlib.Path | None) -> list[int]:
+    """What differs when a file has changed, or was put back."""
+    if path is None or not path.exists():
+        return []
+    status = path.stat()
+    return [status.st_ino, status.st_size, status.st_mtime_ns]
 
 
 def compare(name: str) -> None:
     """Compares a session's ledger with its office, if either may have changed."""
     found = Folder(FOLDER / name)
-    if compared.get(name) == marks_of(found):
+    then = [marks_of(found.ledger), marks_of(found.path / STOPPED)]
+    if compared.get(name) == [*then, marks_of(LOG)]:
         return
     with locked(found.path), contextlib.closing(Ledger.opened_at(found.ledger)) as ledger:
         say_standing(found, look(found, ledger, office_of(name), log_of(name)))
-    # The questions themselves are in the log.
-    compared[name] = marks_of(found)
+    # The questions themselves are in the log. A ledger that was put back meanwhile is another one.
+    compared[name] = [*then, marks_of(LOG)]
 
 
 def compare_all() -> None:
@@ -520,7 +572,7 @@ def students() -> tuple[dict[str, Any], int]:
     if faults.lines:
         return {"error": "names", "faults": faults.lines}, 400
     with opened() as (found, ledger):
-        met = met_with(found, ledger, office_of(session()))
+        met = met_with(found, ledger, office_of(session()), log_of(session()))
         known = Known(ledger.numbers())
         new = {student: name for student, name in people.items() if known.text(student) is None}
         if met.faults_of_new(len(new)):

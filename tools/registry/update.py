@@ -193,3 +193,6 @@ def update_people(ledger: Ledger, found: Session, exams: dict[int, int], faults:
               for exam in taken}
     expected = ledger.expected_pairs()
     update.added, update.dropped = len(wanted - expected), len(expected - wanted)
+    # An ID that has the zeros again which a spreadsheet had taken.
+    ledger.rename_students({}, {student: text for text, student in ids.items()
+                                if len(text) > len(student)})
