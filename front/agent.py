@@ -3,9 +3,10 @@
 Only this program sees passwords. It runs as one process with some threads, because its counts of
 wrong passwords are in its memory (and in a file, so that a restart keeps them):
 
-    gunicorn --workers 1 --threads 16 --bind unix:agent.sock agent:app
+    gunicorn --workers 1 --threads 32 --bind unix:agent.sock agent:app
 
-FRONT_FOLDER has the files `users` (NAME:HASH, or NAME:{PLAIN}WORD), `callers` and `programs`.
+FRONT_FOLDER has the files `users` (NAME:HASH, NAME:{PLAIN}WORD, or NAME:{CODE}DIGEST; a code's
+digest may come after a hash too), `callers` and `programs`.
 FRONT_STATE is a folder of its own, with `sessions.map` for HAProxy. FRONT_KEY signs. The limits
 (`limits`) are in the environment too.
 """
@@ -27,6 +28,10 @@ import flask
 import jwt
 import passlib.context
 import passlib.exc
+import zxcvbn
+
+import codes
+import sign_ins
 
 FOLDER, STATE = (pathlib.Path(os.environ[name]) for name in ("FRONT_FOLDER", "FRONT_STATE"))
 KEY = os.environ["FRONT_KEY"]
@@ -38,6 +43,8 @@ NOISY_FAILURES, NOISY_REFUSALS = (int(os.environ[f"NOISY_{name}"])
                                   for name in ("FAILURES", "REFUSALS"))
 MINUTE, KEPT_SECONDS = 60, 600
 LONGEST_NAME, LONGEST_PASSWORD, MOST_DEVICE_USERS, MOST_KNOWN = 254, 1_024, 8, 10_000
+# How hard a new password has to be to guess, of 4, and how much of it is judged.
+LEAST_SCORE, JUDGED = 3, 100
 # As few hashes at once as there are processors; each takes 19 MB and some 30 ms.
 HASHES_AT_ONCE = int(os.environ.get("FRONT_HASHES", os.cpu_count() or 1))
 HASHES = passlib.context.CryptContext(
@@ -56,14 +63,20 @@ PAGES = {
     "used": (200, "This link was used already, or is too old. Ask your registry for another one."),
     "wrong": (401, "This name and password don't belong together."),
     "often": (429, "Too many wrong passwords were entered for this name or from your network. Wait"
-                   " a minute, then try again. A device on which you have signed in before is not"
-                   " affected."),
+                   " a minute, then try again. A password such as 7k3f-9mhd-q2xt, from a letter, is"
+                   " not affected; nor is a device on which you have signed in before."),
+    "new": (400, "This new password is too easy to guess. Take a longer one, of several words that"
+                 " don't belong together, and not the form of a letter's password."),
+    "same": (400, "The new password is the one that you have."),
+    "changed": (200, "You have a new password, and are signed out on all other browsers."),
+    "everywhere": (200, "You are signed out on all browsers."),
     "tls": (403, "Passwords are only taken over https."),
 }
 SCHEMA = """
 CREATE TABLE IF NOT EXISTS failed (key TEXT, at REAL);
 CREATE TABLE IF NOT EXISTS users (name TEXT PRIMARY KEY, seal TEXT, since INTEGER);
 CREATE TABLE IF NOT EXISTS gone (token TEXT PRIMARY KEY, until INTEGER);
+CREATE TABLE IF NOT EXISTS own (name TEXT PRIMARY KEY, seal TEXT, hash TEXT);
 CREATE TABLE IF NOT EXISTS renewed (name TEXT PRIMARY KEY, seal TEXT, hash TEXT);
 """
 
@@ -96,6 +109,7 @@ class Kept:
 
 
 kept = Kept()
+log = sign_ins.SignIns(STATE / "sign_ins.db")
 
 
 # ---- Counts of wrong passwords
@@ -155,10 +169,11 @@ def is_full(user, address, device):
 # ---- Users
 
 class Users:
-    """The users of the file, by their name in small letters: how it is spelled, and their hash."""
+    """The users of the file, by their name in small letters: how it is spelled, the hash of their
+    password, and the digest of their code."""
 
     def __init__(self):
-        self.marks, self.lines = None, {}
+        self.marks, self.lines, self.given = None, {}, {}
 
     @staticmethod
     def changed_marks():
@@ -172,9 +187,14 @@ class Users:
         with lock:
             if marks == self.marks:
                 return
-            lines = (line.partition(":")[::2] for line in text_of("users").splitlines()
+            lines = (line.split(":") for line in text_of("users").splitlines()
                      if ":" in line and line[0] not in "#:")
-            self.lines = {name.lower(): (name, word.split(":")[0]) for name, word in lines}
+            given = {name.lower(): (name, *kept_of(words)) for name, *words in lines}
+            self.given, self.lines = given, dict(given)
+            # Who has changed their password has that one, until the file has another one for them.
+            for name, seal, stored in kept.ask("SELECT name, seal, hash FROM own"):
+                if name in given and seal == sealed("own", *given[name]):
+                    self.lines[name] = given[name][0], stored, ""
             self.marks = marks
             known.clear()
             note_sessions(self.lines)
@@ -182,6 +202,29 @@ class Users:
     def find(self, user):
         self.read()
         return self.lines.get(user.lower())
+
+    def change(self, user, word):
+        """Gives a user a password of their own."""
+        name, new = user.lower(), HASHES.hash(word)
+        with lock:
+            self.read()
+            kept.ask("INSERT OR REPLACE INTO own VALUES (?, ?, ?)", name,
+                     sealed("own", *self.given[name]), new)
+            self.lines[name] = self.given[name][0], new, ""
+            known.clear()
+            note_sessions(self.lines)
+
+    def end_sessions(self, user):
+        """Ends a user's sessions, and what browsers keep of them."""
+        with lock:
+            kept.ask("UPDATE users SET since = ? WHERE name = ?", milliseconds(), user.lower())
+            write_sessions()
+
+
+def kept_of(words):
+    """A user's hash, or that of nobody, and the digest of their code, or nothing."""
+    code = next((word for word in words if word.startswith(codes.MARK)), "")
+    return NOBODY if words[0] == code else words[0], code
 
 
 users = Users()
@@ -218,7 +261,8 @@ def note_sessions(lines):
            for name, seal, since in kept.ask("SELECT name, seal, since FROM users")}
     with lock:
         kept.db.execute("BEGIN")
-        for name, (_, word) in lines.items():
+        for name, (_, stored, code) in lines.items():
+            word = code if stored == NOBODY else stored + code
             seal = sealed("user", name, word, listed.get(name, ""))
             before, since = old.get(name, ("", 0))
             if before != seal:
@@ -246,7 +290,7 @@ def write_sessions():
 
 def is_right(found, word):
     """Whether the word is the user's. An old hash becomes argon2id, in the agent's own file."""
-    name, stored = found or ("", NOBODY)
+    name, stored, _ = found or ("", NOBODY, "")
     renewed = kept.ask("SELECT hash FROM renewed WHERE name = ? AND seal = ?", name.lower(),
                        sealed("hash", stored))
     current = renewed[0][0] if renewed else stored
@@ -265,9 +309,14 @@ def is_right(found, word):
 
 
 def judged(user, word, address, device):
-    """200, 401 or 429. A try is counted before its hash, and taken back if the word is right, so
-    that many at once get no further than one after another."""
+    """200, 401 or 429. A code is right or wrong, and neither counted nor hashed. Another try is
+    counted before its hash, and taken back if the word is right, so that many at once get no
+    further than one after another."""
     found = users.find(user)
+    if codes.is_right(user, found[2] if found else "", word):
+        return 200
+    if codes.is_code(word):
+        return 401
     # Names that nobody has share some counts, so that they don't fill the memory.
     name = user.lower() if found else f"nobody {int(sealed(user), 16) % 4096}"
     keys = [f"device {device} {name}"] if device else [f"user {name}", f"address {address}"]
@@ -287,6 +336,14 @@ def judged(user, word, address, device):
             for key in keys:
                 counts.take_back(key, moment)
     return 200 if right else 401
+
+
+def noted(user, word, device):
+    """As judged(), with a line in the log of sign-ins."""
+    status = judged(user, word, address(), device)
+    name = user.lower() if users.find(user) else sign_ins.UNKNOWN
+    log.note(name, {200: "right", 401: "wrong", 429: "refused"}[status], address())
+    return status
 
 
 # ---- Tokens
@@ -381,17 +438,36 @@ def by_link(link):
         return shown("used")
     kept.ask("INSERT INTO gone VALUES (?, ?)", link["j"], link["exp"])
     reply = shown("link", link["u"])
-    add_device(reply, link["u"].lower(), {})
+    add_device(reply, link["u"], {})
     return reply
 
 
-def add_device(reply, user, device):
-    """Gives a browser the cookie of those who signed in on it."""
-    people = [*[it for it in device.get("u", []) if it != user], user]
+def mark_of(device, user):
+    """What a browser keeps of somebody who signed in on it: it names nobody, and is another one
+    after a new password."""
+    name = user.lower()
+    since = kept.ask("SELECT since FROM users WHERE name = ?", name)
+    return sealed("device", device, name, str(since[0][0]) if since else "")[:32]
+
+
+def set_device(reply, device, people):
     reply.set_cookie(cookie_names()[1], token(
-        "device", DEVICE_SECONDS, u=people[-MOST_DEVICE_USERS:],
-        j=device.get("j") or secrets.token_urlsafe(12)), path="/-/sign-in", max_age=DEVICE_SECONDS,
-        httponly=True, secure=is_secure(), samesite="Lax")
+        "device", DEVICE_SECONDS, u=people[-MOST_DEVICE_USERS:], j=device), path="/-/sign-in",
+        max_age=DEVICE_SECONDS, httponly=True, secure=is_secure(), samesite="Lax")
+
+
+def add_device(reply, user, mine):
+    """Gives a browser the cookie of those who signed in on it."""
+    device = mine.get("j") or secrets.token_urlsafe(12)
+    mark = mark_of(device, user)
+    set_device(reply, device, [*[it for it in mine.get("u", []) if it != mark], mark])
+
+
+def leave_device(reply, user, mine):
+    """Takes somebody out of a browser's cookie."""
+    if mine:
+        mark = mark_of(mine["j"], user)
+        set_device(reply, mine["j"], [it for it in mine["u"] if it != mark])
 
 
 @app.post("/-/sign-in")
@@ -405,18 +481,79 @@ def sign_in():
         return by_link(claims_of(flask.request.args["link"], "link"))
     if len(word) > LONGEST_PASSWORD:
         return shown("wrong", user, place)
-    session, device = cookie_names()
-    mine = said(device, "device")
-    knows = user.lower() in mine.get("u", [])
-    status = judged(user, word, address(), mine["j"] if knows else None)
+    mine = said(cookie_names()[1], "device")
+    knows = mark_of(mine.get("j", ""), user) in mine.get("u", [])
+    status = noted(user, word, mine["j"] if knows else None)
     if status != 200:
         return shown("often" if status == 429 else "wrong", user, place)
+    if not knows:
+        log.note(user.lower(), "new_browsers", address())
     reply = flask.redirect(place, 303)
-    reply.set_cookie(session, token("session", SESSION_SECONDS, u=users.find(user)[0],
-                                    j=secrets.token_urlsafe(12)), path="/",
-                     httponly=True, secure=is_secure(), samesite="Lax")
-    add_device(reply, user.lower(), mine)
+    set_session(reply, user)
+    if "strange" in form:
+        # Somebody else's computer.
+        leave_device(reply, user, mine)
+    else:
+        add_device(reply, user, mine)
     return reply
+
+
+def signed_in():
+    """Who is signed in by a session that counts, or nothing."""
+    claims = said(cookie_names()[0], "session")
+    since = claims and kept.ask("SELECT since FROM users WHERE name = ?", claims["u"].lower())
+    if not since or claims["i"] < since[0][0] or not users.find(claims["u"]) or kept.ask(
+            "SELECT 1 FROM gone WHERE token = ?", claims["j"]):
+        return ""
+    return claims["u"]
+
+
+def password_page(what, user):
+    status, words = PAGES[what]
+    reply = flask.make_response(
+        flask.render_template("password.html", words=words, user=user), status)
+    if status in (401, 429):
+        reply.headers["X-Failed"] = str(status)
+    return reply
+
+
+@app.get("/-/sign-in/password")
+def present_password():
+    user = signed_in()
+    return password_page(None, user) if user else flask.redirect("/-/sign-in", 303)
+
+
+@app.post("/-/sign-in/password")
+def change_password():
+    """Who is signed in and knows their password gets another one, or ends all their sessions."""
+    form, user = flask.request.form, signed_in()
+    word, new = form.get("password", ""), form.get("new", "")
+    if not user or not is_secure() and not is_loopback():
+        return flask.redirect("/-/sign-in", 303)
+    if "everywhere" in form:
+        users.end_sessions(user)
+        return shown("everywhere")
+    mine = said(cookie_names()[1], "device")
+    knows = mark_of(mine.get("j", ""), user) in mine.get("u", [])
+    status = noted(user, word[:LONGEST_PASSWORD + 1], mine["j"] if knows else None)
+    if status != 200:
+        return password_page("often" if status == 429 else "wrong", user)
+    if new == word:
+        return password_page("same", user)
+    if (codes.is_code(new) or len(new) > LONGEST_PASSWORD
+            or zxcvbn.zxcvbn(new[:JUDGED], user_inputs=[user])["score"] < LEAST_SCORE):
+        return password_page("new", user)
+    users.change(user, new)
+    reply = password_page("changed", user)
+    set_session(reply, user)
+    add_device(reply, user, mine)
+    return reply
+
+
+def set_session(reply, user):
+    reply.set_cookie(cookie_names()[0], token(
+        "session", SESSION_SECONDS, u=users.find(user)[0], j=secrets.token_urlsafe(12)), path="/",
+        httponly=True, secure=is_secure(), samesite="Lax")
 
 
 @app.post("/-/sign-out")
@@ -449,7 +586,7 @@ def who():
     if not is_loopback() or len(word) > LONGEST_PASSWORD:
         return "", 401
     if seal not in known:
-        status = judged(user, word, address(), None)
+        status = noted(user, word, None)
         if status != 200:
             return "", 403 if status == 429 else 401, {"X-Failed": str(status)}
         known[seal] = True
@@ -463,6 +600,8 @@ def watch():
     while True:
         with contextlib.suppress(OSError):
             users.read()
+        with contextlib.suppress(sqlite3.Error):
+            log.write()
         time.sleep(1)
 
 

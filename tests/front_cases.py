@@ -33,6 +33,17 @@ WIDE_SOLUTION = "".join(f"{2 * exam % WIDE_PERIODS}, {exam}\n"
                         for exam in range(WIDE_ROOMS)).encode()
 
 
+def form_of(files, fields):
+    """The body of a form with files and fields, of which some have several values; and its type."""
+    parts = [*((f'name="{name}"; filename="{name}.csv"', content)
+               for name, content in files.items()),
+             *((f'name="{name}"', f"{value}".encode()) for name, values in fields.items()
+               for value in (values if isinstance(values, list) else [values]))]
+    return b"".join(b"--=b=\r\nContent-Disposition: form-data; " + head.encode() + b"\r\n\r\n"
+                    + content + b"\r\n" for head, content in parts) + b"--=b=--\r\n", (
+        "multipart/form-data; boundary==b=")
+
+
 def password(user, word=None):
     token = base64.b64encode(f"{user}:{word or 'try-' + user}".encode()).decode()
     return f"Authorization: Basic {token}"

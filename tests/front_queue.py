@@ -7,12 +7,14 @@ import re
 import resource
 import selectors
 import shutil
+import signal
 import socket
 import subprocess
 import threading
 import time
 
 import browser
+import limits
 from front_cases import CANDIDATE, FIRST_VIEW, ask, parted, told_error
 from run_serve import Run
 from serve_cases import SMALL, SOLUTION, batch_text, message, reply
@@ -20,12 +22,17 @@ from serve_cases import SMALL, SOLUTION, batch_text, message, reply
 TOP = pathlib.Path(__file__).resolve().parent.parent
 HAPROXY = shutil.which("haproxy") or shutil.which("haproxy", path="/usr/sbin")
 SECONDS = 25
+# How long requests wait for an office here; front/limits has more.
+OFFICE_WAIT = "10"
 # A thousand, if so many files may be open.
 CROWD = min(1_000, resource.getrlimit(resource.RLIMIT_NOFILE)[1] // 3)
 
 
 class Queue:
     """HAProxy with the front's queue, before an office on that port."""
+
+    # With a master process, as systemd runs it, it can be reloaded.
+    words = ["-db"]
 
     def __init__(self, folder, port):
         self.folder = pathlib.Path(folder)
@@ -34,17 +41,21 @@ class Queue:
         with (self.folder / "offices.cfg").open("wb") as made:
             subprocess.run([TOP / "front" / "offices", self.folder], stdout=made, check=True)
         self.address = f"unix:{self.folder}/term.sock:"
-        self.environment = {**os.environ, "QUEUE": str(self.folder)}
+        self.environment = {"OFFICE_WAIT": OFFICE_WAIT, **os.environ, "QUEUE": str(self.folder)}
         self.start()
 
     def start(self, *more):
-        files = TOP / "front" / "queue.cfg", *more, self.folder / "offices.cfg"
+        files = self.files(*more)
         with (self.folder / "errors").open("wb") as errors:
             self.process = subprocess.Popen(
-                [HAPROXY, "-db", "-q", *(word for file in files for word in ("-f", file))],
+                [HAPROXY, *self.words, "-q", *(word for file in files for word in ("-f", file))],
                 env=self.environment, stdin=subprocess.DEVNULL, stdout=errors, stderr=errors,
                 group="www-data" if os.geteuid() == 0 else None)
         browser.until_or_ended(self.process, "the queue listens", self.listens)
+
+    def files(self, *more):
+        """Its configuration."""
+        return TOP / "front" / "queue.cfg", *more, self.folder / "offices.cfg"
 
     def listens(self):
         if self.process.poll() is not None:
@@ -56,6 +67,38 @@ class Queue:
 
     def stop(self):
         self.process.kill()
+        self.process.wait()
+
+
+class ReloadedQueue(Queue):
+    """A queue that reads its files again, the limits too."""
+
+    words = ["-db", "-W"]
+
+    def start(self, *more):
+        self.limits = self.folder / "limits.cfg"
+        wait = self.environment["OFFICE_WAIT"]
+        self.limits.write_text(f"global\n    setenv OFFICE_WAIT {wait}\n")
+        super().start(*more)
+
+    def files(self, *more):
+        return self.limits, *super().files(*more)
+
+    def workers(self):
+        children = pathlib.Path(f"/proc/{self.process.pid}/task/{self.process.pid}/children")
+        return set(children.read_text().split())
+
+    def reload(self):
+        """Reads the files again, and waits as an upgrade does: the worker of before tries no office
+        again, and the next one waits for an office only as long as it has seen it answer."""
+        before = self.workers()
+        self.process.send_signal(signal.SIGUSR2)
+        browser.until("the old worker is gone", lambda: self.workers() and not (
+            before & self.workers()))
+        time.sleep(4)
+
+    def stop(self):
+        self.process.terminate()
         self.process.wait()
 
 
@@ -231,6 +274,43 @@ def restarts(run, make_front):
         queue.stop()
 
 
+def upgrades(run, make_front):
+    """The front and the queue are reloaded and the office is started again, as an upgrade does it,
+    and no question is refused; the limits are read again too."""
+    apart = Run.apart(run.program, run.folder, "front", "upgraded")
+    port = browser.free_port()
+    office = RestartingOffice(run.program, apart.database(SMALL), port)
+    queue = ReloadedQueue(apart.folder / "queue", port)
+    front = make_front(apart.folder, queue.address)
+    try:
+        clients = Clients(front, ask("registry", "GET", "/instance"), 12, 20)
+        for _ in range(3):
+            queue.reload()
+            office.process.terminate()
+            front.reload()
+        statuses = clients.result()
+        run.judge("questions beside upgrades", ({200}, True), (set(statuses), statuses[200] > 20))
+        office.stop()
+        queue.limits.write_text("global\n    setenv OFFICE_WAIT 2\n")
+        queue.reload()
+        browser.until("a shorter wait counts", lambda: waited(front) < 6)
+        made = subprocess.run([TOP / "front" / "offices", "--limits", TOP / "front"], check=True,
+                              capture_output=True, text=True).stdout
+        run.judge("limits of the queue", limits.numbers(), dict(re.findall(
+            r"^    setenv (\w+) (\d+)$", made, re.M)))
+    finally:
+        office.stop()
+        front.stop()
+        queue.stop()
+
+
+def waited(front):
+    """The seconds until a question is refused."""
+    began = time.monotonic()
+    front.told(ask("registry", "GET", "/instance"))
+    return time.monotonic() - began
+
+
 def a_dying_office(listener, asked, is_over):
     """Reads each request and ends the connection; the second time it answers the same one."""
     listener.settimeout(0.2)
@@ -312,7 +392,7 @@ def judge_all(run, make_front):
     queue = Queue(run.folder / "queue", office.port)
     front = make_front(run.folder, queue.address)
     others = [threading.Thread(target=part, args=(run, make_front))
-              for part in (restarts, never_twice)]
+              for part in (restarts, upgrades, never_twice)]
     for thread in others:
         thread.start()
     try:

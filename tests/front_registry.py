@@ -17,7 +17,7 @@ import time
 import browser
 import front_sign_in
 import sign_on
-from front_cases import told_error
+from front_cases import form_of, told_error
 from front_page import Page, csv_file, is_read
 from front_sign_in import GUNICORN, TOP, Client
 from run_serve import Run
@@ -406,19 +406,19 @@ CSV = {path.stem: path.read_bytes() for path in (TOP / "examples" / "small").glo
 SIZES = "4 exams, 3 students, 6 enrolments, 4 periods, 2 rooms"
 
 
-def sent_files(client, files, **more):
-    """Status and reply for these files of a new session, as a form sends them."""
-    parts = [*((f'name="{name}"; filename="{name}.csv"', content)
-               for name, content in files.items()),
-             *((f'name="{name}"', text.encode()) for name, text in more.items())]
-    body = b"".join(b"--=b=\r\nContent-Disposition: form-data; " + head.encode() + b"\r\n\r\n"
-                    + content + b"\r\n" for head, content in parts) + b"--=b=--\r\n"
-    status, _, text = client.ask("POST", "/-/registry/session", body, **{
-        "Content-Type": "multipart/form-data; boundary==b="})
+def sent_form(client, path, files, **more):
+    """Status and reply for a form with these files, as soon as there is one."""
+    body, kind = form_of(files, more)
+    status, _, text = client.ask("POST", f"/-/registry/{path}", body, **{"Content-Type": kind})
     said = json.loads(text)
     while status == 202:
-        status, said = asked(client, "GET", f"session/{said['working']}")
+        status, said = asked(client, "GET", f"{path}/{said['working']}")
     return status, said
+
+
+def sent_files(client, files, **more):
+    """Status and reply for these files of a new session."""
+    return sent_form(client, "session", files, **more)
 
 
 def new_session(run, stack):
@@ -540,9 +540,11 @@ def week_on_the_page(page):
             "said": "Draft 1 is published; the seats of 3 candidates have changed."}),
         ("its lists", ["click #menu [data-to=seats] a", "click #lists button"], {
             "said": "1 file is made, with 4 pages."}),
-        ("a late change", ["click #menu [data-to=late-changes] a", ("type", "#batch-lines", LATE),
-                           "click #batch button"], {
-            "#batch-effect": "1 to add, 0 to drop."}),
+        ("a late change", ["click #menu [data-to=late-changes] a", "click #batch-changes",
+                           ("type", "#batch-lines", LATE), "click #batch button"], {
+            "#batch-effect": "Changes: adds 1 enrolment.",
+            "texts #batch-lists > p": [
+                "1 enrolment without a seat until the timetable is published again."]}),
         ("it is sent", "click #batch-send", {}),
         ("nobody has a seat for it yet", [
             "click #menu [data-to=seats] a", "click #seatless"], {
@@ -580,9 +582,9 @@ def further_export_on_the_page(page, csv):
         ("its names", "click #csv-load", {"said": f"{done}.", "#csv-title":
                                           "Further export of the CSV files"}),
         ("its enrolments", [
-            "click #menu [data-to=late-changes] a",
+            "click #menu [data-to=late-changes] a", "click #batch-list",
             ("type", "#batch-file", csv / "enrolments.csv"), "click #batch button"], {
-            "#batch-effect": "1 to add, 0 to drop, 1 kept.",
+            "#batch-effect": "The whole list: adds 1 enrolment; 1 kept as changed here.",
             "titles #batch-lists h3": ["Added (1)", "Rooms that are too small, in Published (1)",
                                        "Kept as they were changed here (1)"],
             "titles #batch-lists tbody th": [
@@ -757,34 +759,119 @@ WHOLE = ("student,exam,name\ns1,MATH101,\ns1,PHYS102,\ns2,MATH101,\ns2,MATH102,\
 SEND, LISTS = "click #batch-send", "rows #batch-lists tr"
 # The digests of the batches that become of them: the new students get numbers 4, 5 and 6.
 DIGEST = {number: hashlib.sha256(b"student,exam,action\n" + lines).hexdigest()
-          for number, lines in ((20, b"4,0,add\n4,3,add\n"), (21, b"6,2,add\n"))}
+          for number, lines in ((20, b"4,0,add\n4,3,add\n"), (21, b"6,2,add\n4,0,add\n4,3,add\n"))}
+FIRST_SAY = "Say first which it is: changes, or the whole list."
+FAULT = "Nothing was sent: 1 fault."
+# What is wrong with lines that can't be sent.
+WRONG_LINES = [
+    ("student,exam,action\ns3,MATH101,ad",
+     "Line 2, action: 'ad' is no action; add, drop or new is expected"),
+    ("student,exam,action\ns3,MATH101,add\nA3,MATH102,add",
+     "Line 3, student: A3: no such student. s3 is Cleo Carter"),
+    ("Student ID;Exam code;Action\ns1;MATH1O1;enrol",
+     "Line 2, exam: MATH1O1: no such exam. MATH101 is Calculus"),
+    ("student,name,exam,action\ns1,Ben Baker,MATH101,drop",
+     "Line 2, name: s1 is Ada Archer, not Ben Baker"),
+    ("Student ID;Exam code\ns1;MATH102",
+     "Line 1, action: this column is missing (there are: Student ID, Exam code)"),
+    ("student,exam,action\n", "There is no line after the first"),
+]
+
+
+def pasted(lines, number=20, kind="changes"):
+    return ["reset #batch", ("set", "#batch-number", number), f"click #batch-{kind}",
+            ("type", "#batch-lines", lines), "click #batch-check"]
+
+
+def faulty_lines(page):
+    """Nothing is chosen at first; lines with a fault aren't sent, and stay in the form."""
+    page.steps(
+        ("neither kind is chosen", [
+            "click #menu [data-to=late-changes] a", ("type", "#batch-lines", LATE),
+            "click #batch-check"], {
+            "said": FIRST_SAY, "fault": ["batch-changes", "true", FIRST_SAY],
+            "hidden #batch-kinds": False, "hidden #batch-plain": True}),
+        *((f"what is wrong with {lines}", pasted(lines), {
+            "said": f"{FAULT}\n{fault}", "fault": ["batch-lines", "true", FAULT],
+            "value #batch-lines": lines, "hidden #batch-preview": True})
+          for lines, fault in WRONG_LINES))
 
 
 def on_the_page(page):
     """New students of lines and of a whole list; what the page sends is in the ledger."""
-    def pasted(lines, number=20):
-        return ["reset #batch", ("set", "#batch-number", number), ("type", "#batch-lines", lines),
-                "click #batch button"]
-
+    guard = "1 of 5 students would be new, which is more than a tenth. That is meant."
     page.steps(
-        ("new students", ["click #menu [data-to=late-changes] a", *pasted(NEW)], {
-            "#batch-effect": "2 to add, 0 to drop, 2 new students.", LISTS: [
-                ["Candidate"], ["Zoë Zander\nr9"], ["Quo\nq1"],
+        ("new students", pasted(NEW), {
+            "#batch-effect": "Changes: adds 2 enrolments, enters 2 new students.",
+            "#batch-send": "Send changes: add 2 enrolments, enter 2 new students", LISTS: [
                 ["Candidate", "Exam"], ["Zoë Zander\nr9", "MATH101\nCalculus"],
-                ["Zoë Zander\nr9", "PHYS102\nOptics"]]}),
+                ["Zoë Zander\nr9", "PHYS102\nOptics"],
+                ["Candidate"], ["Zoë Zander\nr9"], ["Quo\nq1"]]}),
         ("they are sent", SEND, {
             "said": "2 new students. Batch 20 is accepted: 2 added, 0 dropped, 0 unchanged."}),
-        ("a student who isn't new", pasted(NEW), {
-            "said": "Nothing was sent: 2 faults.\nLine 2: r9 is Zoë Zander already\n"
-                    "Line 4: q1 is Quo already"}),
-        ("a whole list", pasted(WHOLE, 21), {
-            "#batch-effect": "1 to add, 0 to drop, 1 new student."}),
-        ("so many new students are asked about", SEND,
-         {"#confirm-title": "Add 1 student?"}),
-        ("a whole list is sent", "click #confirm-yes", {
-            "said": "1 new student. Batch 21 is accepted: 1 added, 0 dropped, 0 unchanged."}),
+        ("the same again", pasted(NEW), {
+            "#batch-effect": "Changes: changes nothing; 2 so already."}),
+        ("a student who isn't new", pasted(NEW.replace("Zoë Zander", "Zoë Zimmer")), {
+            "said": f"{FAULT}\nLine 2, student: r9 is Zoë Zander already"}),
+        ("a whole list", pasted(WHOLE, 21, "list"), {
+            "#batch-effect": "The whole list: adds 1 enrolment, enters 1 new student; "
+                             "2 so already.", "texts #batch-guards": [guard]}),
+        ("so many new students are looked at first", SEND, {
+            "fault": ["guard-new", "true", "Look at this first, and tick it."]}),
+        ("a whole list is sent", ["click #guard-new", SEND], {
+            "said": "1 new student. Batch 21 is accepted: 1 added, 0 dropped, 2 unchanged."}),
         ("the opposite names them", "click #batch-inverse", {
             "value #batch-lines": "student,exam,action\nx1,PHYS101,drop\n"}))
+
+
+OWNER_FILES = [
+    ("Exam;Dept\nMATH101;Chemistry\n9;3\n",
+     "No owner was set: 3 faults.\nLine 2, department: Chemistry: no such department\n"
+     "Line 3, exam: 9: no such exam\nLine 3, department: 3: no such department"),
+    ("Exam;Dept\nMATH1O1;Physic\n", "No owner was set: 2 faults.\n"
+     "Line 2, exam: MATH1O1: no such exam. MATH101 is Calculus\n"
+     "Line 2, department: Physic: no such department. Physics is department 3"),
+    ("Exam\nMATH101\n", "No owner was set: 1 fault.\n"
+     "Line 1, department: this column is missing (there are: Exam)"),
+    ("Exam;Dept\nMATH101;mathematics\nPHYS102;0\n", "2 exams have their owners.")]
+
+
+def owners_on_the_page(run, page, stack):
+    """Exams get the owners of a file."""
+    page.act("click #menu [data-to=set-up] a")
+    for number, (text, words) in enumerate(OWNER_FILES):
+        path = run.folder / f"owners-{number}.csv"
+        path.write_text(text)
+        page.steps((f"owners: {words}", [
+            ("type", "#owners-file", path), "click #owners button.main"], {"said": words}))
+    changes = [(line["path"], line["body"]) for line in stack.front.changes()
+               if line["path"].endswith("/owner")]
+    run.judge("which exams got owners", [
+        ("/exams/0/owner", '{"dept":1}'), ("/exams/3/owner", '{"dept":0}')], changes)
+
+
+def two_registrars(run, page, office):
+    """What another registrar sent since the check is said, and one click checks again."""
+    page.steps(("one line", [
+        "click #refresh", "click #menu [data-to=late-changes] a",
+        *pasted("student,exam,action\nq1,MATH102,add\nq1,PHYS102,add", 40)], {
+        "#batch-effect": "Changes: adds 2 enrolments."}))
+    other = {"file": b"student,exam,action\nq1,MATH102,add\n"}
+    plan = sent_form(office, "changes", other, kind="changes")[1]
+    run.judge("another registrar is first", 201, sent_form(
+        office, "changes", other, kind="changes", digest=plan["digest"], turn=plan["turn"],
+        number=41)[0])
+    page.steps(
+        ("the plan is another one", SEND, {
+            "fault": ["batch-lines", "true",
+                      "Nothing was sent: it would do something else by now."]}),
+        ("one click checks again", "click #error button", {
+            "#batch-effect": "Changes: adds 1 enrolment; 1 so already."}),
+        ("it is sent", [("set", "#batch-number", 42), "click #batch-check", SEND], {
+            "said": "Batch 42 is accepted: 1 added, 0 dropped, 1 unchanged."}),
+        ("both are taken back", [
+            *pasted("student,exam,action\nq1,MATH102,drop\nq1,PHYS102,drop", 43), SEND], {
+            "said": "Batch 43 is accepted: 0 added, 2 dropped, 0 unchanged."}))
 
 
 def conflicts_on_the_page(run, page, stack, office):
@@ -796,8 +883,8 @@ def conflicts_on_the_page(run, page, stack, office):
     for path, body in (("exams/3/move", b'{"period":3,"room":0}'), ("publish", b"")):
         run.judge("PHYS102 beside PHYS101", 200, office.ask("POST", f"/drafts/1/{path}", body)[0])
     page.steps(("what late changes would break", [
-        "click #refresh", "click #menu [data-to=late-changes] a", "reset #batch",
-        ("type", "#batch-lines", "student,exam,action\ns1,PHYS101,add"), "click #batch button"], {
+        "click #refresh", "click #menu [data-to=late-changes] a",
+        *pasted("student,exam,action\ns1,PHYS101,add")], {
             "hidden #batch-note": True, LISTS: [
                 ["Candidate", "Exam"], ["Ada Archer\ns1", "PHYS101\nMechanics"],
                 ["Candidate", "Exam", "Exam"],
@@ -836,7 +923,8 @@ def history_on_the_page(page):
             "texts #history-found td:nth-child(2)": ["registry"] * 5,
             "texts #history-found td:nth-child(3)": [
                 "Draft 1 published: publication 2, 43 points, 3 seats changed",
-                f"Batch 21, from this page: 1 added, 0 dropped\nSHA-256 {DIGEST[21][:12]}",
+                "Batch 21, from the student system's list: 1 added, 0 dropped, 2 unchanged\n"
+                f"SHA-256 {DIGEST[21][:12]}",
                 "Batch 20, from this page: 2 added, 0 dropped. draft 1: 37 to 43 points\n"
                 f"SHA-256 {DIGEST[20][:12]}",
                 "Draft 1 published: publication 1, 37 points, 6 seats changed", "Draft 1 made"]}),
@@ -849,7 +937,7 @@ def history_on_the_page(page):
         ("a candidate", [("type", "#history-words", "ada"), "click #history-find button"], {
             "said": "2 entries about Ada Archer."}),
         ("an exam", [("set", "#history-words", "math101"), "click #history-find button"], {
-            "said": "2 entries about MATH101."}),
+            "said": "3 entries about MATH101."}),
         ("a batch, by its digest", [("set", "#history-words", DIGEST[20][:12]),
                                     "click #history-find button"], {
             "said": "1 batch with this digest.",
@@ -867,7 +955,7 @@ def history_on_the_page(page):
             "said": "Draft 2 is made of publication 1."}),
         ("the opposite of an earlier batch", [
             ("set", "#history-words", "math101"), "click #history-find button",
-            "click #history-found tbody tr:nth-child(1) button"], {
+            "click #history-found tbody tr:nth-child(2) button"], {
             "hash": "#late-changes", "value #batch-lines":
             "student,exam,action\nr9,PHYS102,drop\nr9,MATH101,drop\n"}))
 
@@ -906,16 +994,20 @@ def in_browser(run, chromium, make_front):
         # A look that fails is tried again after ten seconds.
         kept(run, stack, office, "the first is kept before the next is made", FIRST)
         sign_in_on_the_page(chromium, stack)
-        on_the_page(Page(run, chromium))
+        page = Page(run, chromium)
+        faulty_lines(page)
+        on_the_page(page)
         run.judge("another publication", 200, office.ask("POST", "/drafts/1/publish")[0])
         kept(run, stack, office, "both are kept", (2, "registry", 1, 43), FIRST)
         history_on_the_page(Page(run, chromium))
         lists_on_the_page(run, Page(run, chromium), stack, office)
         conflicts_on_the_page(run, Page(run, chromium), stack, office)
+        two_registrars(run, Page(run, chromium), office)
+        owners_on_the_page(run, Page(run, chromium), stack)
         run.judge("what the page sent, in the ledger", [
-            (20, "page", "registry", 2), (21, "page", "registry", 1)], stack.service.rows(
+            (20, "page", "registry", 2), (21, "file", "registry", 1)], stack.service.rows(
             "SELECT number, source, prepared_by, added FROM batches JOIN effects ON batch = number"
-            " ORDER BY number"))
+            " WHERE number < 40 ORDER BY number"))
         run.judge("complaints about the page with a service", [], chromium.complaints())
     finally:
         stack.stop()

@@ -2,7 +2,9 @@
 import collections
 import concurrent.futures
 import contextlib
+import csv
 import http.client
+import importlib
 import os
 import pathlib
 import re
@@ -10,6 +12,7 @@ import secrets
 import shutil
 import socket
 import subprocess
+import sys
 import threading
 import time
 import urllib.parse
@@ -26,6 +29,7 @@ from serve_cases import SOLUTION
 jwt = debian.module("jwt")
 
 TOP = pathlib.Path(__file__).resolve().parent.parent
+sys.path.append(str(TOP / "front"))
 GUNICORN = shutil.which("gunicorn")
 # Beyond this nothing is waited for. Long, because other tests run beside.
 SECONDS = 100
@@ -44,7 +48,8 @@ class Agent:
         self.folder, self.socket = folder / "agent", folder / "agent" / "agent.sock"
         self.folder.mkdir()
         self.environment = {
-            **os.environ, **limits.numbers(), "FRONT_FOLDER": str(front_folder),
+            **limits.numbers(), "OFFICE_WAIT": front_queue.OFFICE_WAIT, **os.environ,
+            "FRONT_FOLDER": str(front_folder),
             "FRONT_STATE": str(self.folder), "FRONT_KEY": key, "FRONT_AGENT": str(self.socket),
             "MALLOC_ARENA_MAX": "2",
             "FRONT_LUA": str(TOP / "front" / "sessions.lua"),
@@ -53,7 +58,7 @@ class Agent:
 
     def start(self):
         self.process = subprocess.Popen(
-            [GUNICORN, "--workers", "1", "--threads", "16", "--bind", f"unix:{self.socket}",
+            [GUNICORN, "--workers", "1", "--threads", "32", "--bind", f"unix:{self.socket}",
              "--chdir", TOP / "front", "--graceful-timeout", "2", "agent:app"],
             env=self.environment, stdin=subprocess.DEVNULL, stdout=subprocess.DEVNULL,
             stderr=subprocess.DEVNULL)
@@ -72,9 +77,9 @@ class SignInQueue(front_queue.Queue):
         self.more = agent.environment
         super().__init__(folder, port)
 
-    def start(self):
+    def start(self, *more):
         self.environment = {**self.more, "QUEUE": str(self.folder)}
-        super().start(TOP / "front" / "sign_in.cfg")
+        super().start(TOP / "front" / "sign_in.cfg", *more)
 
 
 class Client:
@@ -389,6 +394,260 @@ def users_of_a_file(run, stack):
         Client(stack.front).sign_in("zoe", word)[0] for word in ("another", "her word")])
 
 
+def codes_of_letters(run, stack):
+    """A right code signs in at once, whatever others try at its account and from its address; a
+    code is right for its account only, however it is written."""
+    people, made = stack.run.folder / "letters.csv", stack.run.folder / "letters"
+    people.write_text("user,caller\nlea,cand:1\nlou,cand:2\n")
+
+    def letters(*words):
+        ended = subprocess.run([TOP / "tools" / "users_from_csv", people, made, *words],
+                               check=False, capture_output=True, text=True)
+        run.judge("letters", (0, ""), (ended.returncode, ended.stderr))
+        lines = (made / "passwords.csv").read_text().splitlines()[1:]
+        return dict(line.split(",") for line in lines)
+
+    given = letters()
+    codes = [*given.values()]
+    run.judge("codes", ([True] * 2, 2), ([bool(re.fullmatch(
+        "[0-9a-hjkmnp-tv-z]{4}(-[0-9a-hjkmnp-tv-z]{4}){2}", code)) for code in codes],
+        len(set(codes))))
+    run.judge("what is kept of codes", [True] * 2, [bool(re.fullmatch(
+        r"l\w+:\{CODE\}[0-9a-f]{64}", line)) for line in (made / "users").read_text().split()])
+    users, before = stack.front.folder / "users", (stack.front.folder / "users").read_text()
+    users.write_text(before + (made / "users").read_text())
+    with (stack.front.folder / "callers").open("a") as callers:
+        callers.write((made / "callers").read_text())
+    stack.front.reload()
+    for name, user, word, status in (
+            ("as it is", "lea", codes[0], 303), ("of another account", "lea", codes[1], 401),
+            ("with O and I, in capital letters, without hyphens", "LEA", codes[0].upper().replace(
+                "-", "").replace("0", "O").replace("1", "I"), 303),
+            ("with blanks", "lea", f" {codes[0]}", 401),
+            ("that goes on", "lea", f"{codes[0]}-1", 401),
+            ("of an account that has none", "ada", codes[0], 401),
+            ("of a name that nobody has", "eve", codes[0], 401)):
+        run.judge(f"a code {name}", status,
+                  Client(stack.front, "127.50.0.1").sign_in(user, word)[0])
+    guessed = collections.Counter(Client(stack.front, f"127.51.{number}.1").sign_in(
+        "lou", f"guess {number}")[0] for number in range(12))
+    run.judge("guesses of an account with a code", {401: 10, 429: 2}, guessed)
+    run.judge("the code meanwhile", 303, Client(stack.front, "127.51.90.1").sign_in(
+        "lou", codes[1])[0])
+    typos = [Client(stack.front, "127.50.0.2").sign_in("lou", f"{number:04}-0000-0000")[0]
+             for number in range(70)]
+    run.judge("wrong codes of an address", {401}, set(typos))
+    run.judge("a right one, and a password, after them", (303, 303), tuple(
+        Client(stack.front, "127.50.0.2").sign_in(user, word)[0]
+        for user, word in (("lou", codes[1]), ("ben", None))))
+    for number in range(80):
+        Client(stack.front, "127.50.0.3").sign_in(f"nobody-{number}", "guess")
+    there = Client(stack.front, "127.50.0.3")
+    run.judge("an address that floods: its form, a password, a code", (200, 429, 303), (
+        there.ask("GET", "/-/sign-in")[0], there.sign_in("ben")[0],
+        there.sign_in("lou", codes[1])[0]))
+    renewed = letters("--renew")
+    users.write_text(before + (made / "users").read_text())
+    browser.until("the next letter counts", lambda: Client(stack.front, "127.50.0.4").sign_in(
+        "lou", renewed["lou"])[0] == 303)
+    run.judge("the one before doesn't", 401, Client(stack.front, "127.50.0.4").sign_in(
+        "lou", codes[1])[0])
+    field = password("lou", renewed["lou"]).removeprefix("Authorization: ")
+    run.judge("a code as Basic", 200,
+              Client(stack.front).ask("GET", "/me", Authorization=field)[0])
+    users.write_text(before)
+
+
+def beside_hashes(run, stack):
+    """Codes don't wait for the hashes of other passwords, and so don't those who are signed in."""
+    users, before = stack.front.folder / "users", (stack.front.folder / "users").read_text()
+    ended = subprocess.run(
+        [TOP / "tools" / "users_from_csv", stack.run.folder / "letters.csv", stack.run.folder /
+         "letters", "--renew"], check=False, capture_output=True, text=True)
+    run.judge("letters", (0, ""), (ended.returncode, ended.stderr))
+    users.write_text(before + (stack.run.folder / "letters" / "users").read_text())
+    code = dict(line.split(",") for line in (
+        stack.run.folder / "letters" / "passwords.csv").read_text().splitlines())["lea"]
+    ada = Client(stack.front)
+    ada.sign_in("ada")
+    statuses, waits = collections.Counter(), []
+
+    def guess(number):
+        return Client(stack.front, f"127.52.{number // 250}.{number % 250 + 1}").sign_in(
+            f"somebody-{number}", "guess")[0]
+
+    with concurrent.futures.ThreadPoolExecutor(300) as pool:
+        guessing = [pool.submit(guess, number) for number in range(300)]
+        browser.until("some wait", lambda: sum(one.done() for one in guessing) > 20)
+        for _ in range(5):
+            began = time.monotonic()
+            statuses[Client(stack.front, "127.52.9.9").sign_in("lea", code)[0]] += 1
+            statuses[ada.view("/-/user")[0]] += 1
+            waits.append(time.monotonic() - began)
+        left = sum(not one.done() for one in guessing)
+        run.judge("codes and sessions beside hashes", ({303: 5, 200: 5}, True, True),
+                  (statuses, max(waits) < 5, left > 50))
+    run.judge("the guesses", {401}, {one.result() for one in guessing})
+    users.write_text(before)
+
+
+def names_of_users(run, stack):
+    """A name that can't sign in is refused at a reload, with its line; the front goes on."""
+    users, before = stack.front.folder / "users", (stack.front.folder / "users").read_text()
+    users.write_text("# \u00e4 b:c\n\no'brien:x\n\u00c4rne:x\nx-y.z_@+a!,/#~[|]:x\no brien:x\n"
+                     f"~x:x\nx;y:x\n'x:x\n{'x' * 255}:x\n{'x' * 254}:x\n")
+    done = subprocess.run([stack.front.folder / "spell"], capture_output=True, text=True,
+                          check=False, timeout=SECONDS)
+    run.judge("names that can't sign in", (1, ["4", "6", "7", "8", "9", "10"]), (
+        done.returncode, re.findall(r"spell: users, line (\d+): the name .* cannot sign in: ",
+                                    done.stderr)))
+    users.write_text(before)
+    stack.front.spell()
+    ada = Client(stack.front)
+    ada.sign_in("ada")
+    for path, asked in (("/registry.html?a=b&to=//evil", "/registry.html"), ("//evil", "/")):
+        status, header, _ = Client(stack.front).ask("GET", path, Accept="text/html")
+        run.judge(f"{path} sends to sign in", (302, f"http://{ada.host}/-/sign-in?to={asked}"),
+                  (status, header["Location"]))
+
+
+def log_of_sign_ins(run, stack):
+    """Who tried whose account is in a log of lines for an account and a minute."""
+    lines = stack.agent.folder / "sign_ins.db"
+    tool = TOP / "front" / "sign_ins.py"
+
+    users, before = stack.front.folder / "users", (stack.front.folder / "users").read_text()
+    users.write_text(f"{before}mia:{{PLAIN}}try-mia\n")
+
+    def printed(*more):
+        return subprocess.run(["python3", "-B", tool, lines, *more], check=True,
+                              capture_output=True, text=True).stdout.splitlines()
+
+    for number in range(5):
+        Client(stack.front, f"127.60.{number}.1").sign_in("mia", f"guess {number}")
+    Client(stack.front, "127.60.9.1").sign_in("mia")
+    Client(stack.front, "127.60.9.2").sign_in("nobody-here", "guess")
+
+    def found():
+        rows = [row for row in csv.reader(printed("--lines")) if row[1] == "mia"]
+        return [sum(int(row[place]) for row in rows) for place in (2, 3, 5)]
+
+    browser.until("the lines are there", lambda: found()[:2] == [1, 5])
+    run.judge("its new browser, and who may read it", ([1, 5, 1], 0o600),
+              (found(), lines.stat().st_mode & 0o777))
+    run.judge("names that nobody has", True, any(
+        line.partition(",")[2].startswith("names that nobody has,") for line in printed("--lines")))
+    run.judge("what it says", [True], [bool(re.match(
+        r"5 wrong passwords for mia in 7 days, from [1-6] address(es)? in a minute, the last at .*"
+        r"; 1 new browser", line)) for line in printed() if " mia " in line])
+    users.write_text(before)
+
+
+def bounded_log(run):
+    """The log keeps its size, and a flood of wrong passwords pushes out no right one."""
+    module = importlib.import_module("sign_ins")
+    path = run.folder / "bounded.db"
+    log = module.SignIns(path)
+    module.MOST, log.now = 50, lambda: log.minute
+    for minute in range(1_000_000, 1_000_005):
+        log.minute, log.lines = minute, {}
+        log.note(f"right-{minute}", "right", "127.0.0.1")
+        for number in range(1_000):
+            log.note(f"user-{number}", "wrong", f"127.0.{number % 200}.1")
+        log.write()
+    rows = log.db.execute("SELECT minute, name, right, wrong, addresses FROM sign_ins").fetchall()
+    run.judge("right ones are kept", 5, sum(row[2] for row in rows))
+    run.judge("lines of wrong ones", True, module.MOST <= len(rows) - 5 <= module.MOST + 101)
+    run.judge("those of one minute", (101, 900, 100), (
+        sum(row[0] == minute and not row[2] for row in rows),
+        *[row[3:] for row in rows if row[:2] == (minute, module.FLOOD)][0]))
+
+
+def marks(run, stack):
+    """What a browser keeps names nobody, ends with a new password, and isn't left where somebody
+    says that it isn't their computer."""
+    def claims(client):
+        return jwt.decode(client.cookies["device"], stack.key, algorithms=["HS256"])
+
+    ben, other = Client(stack.front, "127.61.0.1"), Client(stack.front, "127.61.0.2")
+    ben.sign_in("ben")
+    run.judge("its claims", (True, 1, False), (
+        set(claims(ben)) == {"u", "k", "h", "i", "j", "exp"}, len(claims(ben)["u"]),
+        "ben" in str(claims(ben))))
+    other.sign_in("ben", strange="on")
+    run.judge("somebody else's computer", False, "device" in other.cookies)
+    other.sign_in("ada")
+    other.sign_in("ben", strange="on")
+    run.judge("with others who know it", 1, len(claims(other)["u"]))
+    for number in range(12):
+        Client(stack.front, f"127.62.{number}.1").sign_in("ben", "guess")
+    run.judge("amid guesses: a known browser, one that isn't", (303, 429), tuple(
+        client.sign_in("ben")[0] for client in (ben, other)))
+    users, before = stack.front.folder / "users", (stack.front.folder / "users").read_text()
+    users.write_text(before.replace("ben:{PLAIN}try-ben", "ben:{PLAIN}another-word"))
+    session = Client(stack.front, "127.61.0.3")
+    browser.until("the new password counts", lambda: ben.view("/-/user")[0] == 401)
+    run.judge("the browser of before isn't known", 429, ben.sign_in("ben", "another-word")[0])
+    run.judge("nobody is signed in there", 401, session.view("/-/user")[0])
+    users.write_text(before)
+
+
+def own_passwords(run, stack):
+    """Who is signed in changes their password, which ends all that others have of them."""
+    path = "/-/sign-in/password"
+
+    def changes(client, **form):
+        status, _, page = client.ask("POST", path, urllib.parse.urlencode(form), Accept="text/html",
+                                     Content_Type="application/x-www-form-urlencoded",
+                                     Origin=f"http://{client.host}")
+        return status, page.decode()
+
+    new = "mushroom-lantern-seven"
+    here, there, nobody = (Client(stack.front, f"127.63.0.{number}") for number in (1, 2, 3))
+    for client in (here, there):
+        client.sign_in("cleo")
+    run.judge("the form", (200, True, 303), (
+        (came := here.ask("GET", path))[0], b'value="cleo"' in came[2], nobody.ask("GET", path)[0]))
+    run.judge("nobody", 303, changes(nobody, user="cleo", password="try-cleo", new=new)[0])
+    run.judge("another site's form", 403, here.ask(
+        "POST", path, "password=try-cleo", Origin="https://elsewhere.example")[0])
+    for name, word, text, status in (
+            ("with a wrong one", "guess", new, 401), ("that is easy", "try-cleo", "cleo2026", 400),
+            ("that is the same", "try-cleo", "try-cleo", 400),
+            ("of the form of a code", "try-cleo", "vgkt-tn3d-jerv", 400)):
+        run.judge(f"a new password {name}", (status, True), (
+            (came := changes(here, user="ada", password=word, new=text))[0],
+            'role="alert"' in came[1]))
+    run.judge("a new password", (200, True), (
+        (came := changes(here, user="ada", password="try-cleo", new=new))[0],
+        "You have a new password" in came[1]))
+
+    def is_out(client):
+        # Less often than a user may ask.
+        time.sleep(0.2)
+        return client.view("/-/user")[0] == 401
+
+    browser.until("others are signed out", lambda: is_out(there))
+    run.judge("who changed it isn't", 200, here.view("/-/user")[0])
+    run.judge("the old one, the new one, and that of somebody else", [401, 303, 303], [
+        Client(stack.front, "127.63.1.1").sign_in(user, word)[0]
+        for user, word in (("cleo", "try-cleo"), ("cleo", new), ("ada", "try-ada"))])
+    stack.agent.stop()
+    stack.agent.start()
+    run.judge("after a restart", [401, 303], [
+        Client(stack.front, "127.63.1.2").sign_in("cleo", word)[0] for word in ("try-cleo", new)])
+    run.judge("signed out everywhere", 200, changes(here, everywhere="on")[0])
+    browser.until("that browser too", lambda: is_out(here))
+    users, before = stack.front.folder / "users", (stack.front.folder / "users").read_text()
+    users.write_text(before.replace("try-cleo", "from-the-registry"))
+    browser.until("the registry's next one counts", lambda: Client(
+        stack.front, f"127.63.2.{time.time_ns() % 250}").sign_in("cleo", "from-the-registry")[0]
+        == 303)
+    run.judge("in place of their own", 401, Client(
+        stack.front, "127.63.1.3").sign_in("cleo", new)[0])
+    users.write_text(before)
+
+
 def programs(run, stack):
     """A program has a token in place of a password, until it is removed."""
     key = stack.run.folder / "front.key"
@@ -400,14 +659,41 @@ def programs(run, stack):
              "--key", key, *words], capture_output=True, text=True, check=False)
         return done.returncode, done.stdout.strip() or done.stderr.strip()
 
-    status, token = ended("add", "nightly", "office")
+    # The socket at which the front knows nobody without a token.
+    at = stack.front.folder / "run" / "front.sock"
+    more = stack.front.folder / "more"
+    more.mkdir()
+    (more / "service.conf").write_text((TOP / "front" / "service.conf").read_text().replace(
+        "/var/lib/examoffice-front/front.sock", str(at)))
     stack.front.reload()
+    # The tool reloads the front where systemd runs it.
+    reloading = threading.Timer(2, stack.front.reload)
+    reloading.start()
+    status, token = ended("--socket", at, "add", "nightly", "office")
     nightly = Client(stack.front)
 
-    def asks(path):
+    def asks(path, token=token):
         return nightly.ask("GET", path, Authorization=f"Bearer {token}")[0]
 
-    browser.until("the program signs in", lambda: asks("/drafts/1") == 200)
+    run.judge("a new program, at once", (0, [200] * 4),
+              (status, [asks("/drafts/1") for _ in range(4)]))
+    reloading.join()
+    renewed = ended("renew", "nightly")
+    browser.until("the token before counts no longer", lambda: asks("/drafts/1") == 401)
+    run.judge("its next one does", (0, 200), (renewed[0], asks("/drafts/1", renewed[1])))
+    token, kept = renewed[1], stack.run.folder / "program.token"
+    kept.write_text("A_TOKEN=x\n")
+    run.judge("renewed in its file, but not so soon", ((0, ""), "A_TOKEN=x\n"),
+              (ended("renew", "nightly", "--into", kept), kept.read_text()))
+    listed = stack.front.folder / "programs"
+    listed.write_text(re.sub(r"# (\S+) [0-9]+", r"# \1 1600000000000", listed.read_text()))
+    run.judge("after 30 days", ((0, ""), True, 0o600), (
+        ended("renew", "nightly", "--into", kept), kept.read_text().startswith("A_TOKEN=ey"),
+        kept.stat().st_mode & 0o777))
+    token = kept.read_text().strip().removeprefix("A_TOKEN=")
+    browser.until("the token of its file works", lambda: asks("/drafts/1", token) == 200)
+    run.judge("renewed without being there", (1, "token: there is no program other"),
+              ended("renew", "other"))
     nightly.cookies = {"session": token}
     run.judge("its token as a cookie", 401, nightly.ask("GET", "/drafts/1")[0])
     run.judge("added twice", (1, "token: there is a program nightly; remove it first"),
@@ -421,13 +707,40 @@ def programs(run, stack):
         ("stranger", "exams.example"), ("registry", "https://exams.example/"))])
     run.judge("the list", ["nightly", "office"], ended("list")[1].split()[:2])
     run.judge("removed", (0, ""), ended("remove", "nightly"))
-    browser.until("the program is nobody", lambda: asks("/drafts/1") == 401)
+    browser.until("the program is nobody", lambda: asks("/drafts/1", token) == 401)
     other = [ended(*words)[1] for words in (
         ("add", "nightly", "dept:3"), ("remove", "nightly"), ("add", "nightly", "dept:3"))][2]
     stack.front.reload()
     browser.until("another one counts", lambda: nightly.ask(
         "GET", "/drafts/1", Authorization=f"Bearer {other}")[0] == 200)
-    run.judge("the old one doesn't", 401, asks("/drafts/1"))
+    run.judge("the old one doesn't", 401, asks("/drafts/1", token))
+
+
+def another_key(run, stack):
+    """With another key nobody is signed in, and programs have the tokens that it made."""
+    key, kept = stack.run.folder / "front.key", stack.run.folder / "service.token"
+    kept.write_text("REGISTRY_TOKEN=x\n")
+    known = Client(stack.front)
+    known.sign_in("ada")
+    tool = ["/usr/bin/python3", TOP / "tools" / "token", "--front", stack.front.folder,
+            "--key", key, "--no-reload"]
+    subprocess.run([*tool, "add", "registry-service", "office"], check=True,
+                   stdout=subprocess.DEVNULL)
+    made = subprocess.run([*tool, "new-key", "--into", kept], check=True, capture_output=True,
+                          text=True).stdout.split()
+    stack.key = stack.agent.environment["FRONT_KEY"] = key.read_text().strip().partition("=")[2]
+    stack.agent.stop()
+    stack.agent.start()
+    stack.queue.stop()
+    stack.queue.start()
+    stack.front.reload()
+    token = kept.read_text().strip().partition("=")[2]
+    run.judge("programs with new tokens", ["nightly"], made[::2])
+    for name, expected, one in (("nightly", 200, made[1]), ("registry-service", 200, token)):
+        browser.until(f"the token of {name} works", lambda: Client(stack.front).ask(
+            "GET", "/drafts/1", Authorization=f"Bearer {one}")[0] == expected)
+    run.judge("a session of before", 401, known.view("/-/user")[0])
+    run.judge("signing in again", 303, known.sign_in("ada")[0])
 
 
 def basic(run, stack):
@@ -473,13 +786,16 @@ def networks(run, stack):
         guess(f"2001:db8:0:1::{number + 1:x}", number)
     known = Client(stack.front)
     known.sign_in("ada")
-    pages = {"a network that floods": ("2001:db8:0:1::7", "", 429),
-             "a known device there": ("2001:db8:0:1::7", known.cookies["device"], 200),
-             "another network": ("2001:db8:0:2::7", "", 200)}
-    for name, (address, device, status) in pages.items():
-        run.judge(f"the form for {name}", status, agent_asked(
-            stack, "GET", "/-/sign-in", X_Real_IP=address, X_Scheme="http", Host=known.host,
-            Cookie=f"device={device}"))
+    forms = {"a network that floods": ("2001:db8:0:1::7", "", 429),
+             "a known device there": ("2001:db8:0:1::7", known.cookies["device"], 403),
+             "another network": ("2001:db8:0:2::7", "", 403)}
+    for name, (address, device, status) in forms.items():
+        fields = {"X_Real_IP": address, "X_Scheme": "http", "Host": known.host,
+                  "Cookie": f"device={device}"}
+        run.judge(f"the form for {name}", 200, agent_asked(stack, "GET", "/-/sign-in", **fields))
+        run.judge(f"a password of {name}", status, agent_asked(
+            stack, "POST", "/-/sign-in", "user=ada&password=try-ada",
+            Content_Type="application/x-www-form-urlencoded", **fields))
 
 
 def over_tls(run, make_front):
@@ -586,9 +902,10 @@ def judge_stack(run, make_front):
         for method, path, body, status in (("PUT", "/drafts/1", SOLUTION, 201),
                                            ("POST", "/drafts/1/publish", b"", 200)):
             run.judge("the start", status, office.ask(method, path, body)[0])
-        for part in (sessions, asked_too_often, forged, old_hashes, users_of_a_file, programs,
-                     basic, networks,
-                     a_crowd, first_sign_ins, ends, guesses, as_long):
+        for part in (sessions, asked_too_often, forged, old_hashes, users_of_a_file,
+                     codes_of_letters, names_of_users, programs, basic, networks, a_crowd,
+                     first_sign_ins, beside_hashes, log_of_sign_ins, ends, guesses, as_long, marks,
+                     own_passwords, another_key):
             part(run, stack)
     finally:
         stack.stop()
@@ -629,6 +946,7 @@ def judge(of_front, make_front):
         print(f"front: signing in is left out without {' and '.join(missing())}")
         return
     run = Run.apart(of_front.program, of_front.folder, "front", "sign_in")
+    bounded_log(run)
     tls = threading.Thread(target=over_tls, args=(run, make_front))
     tls.start()
     judge_stack(run, make_front)

@@ -39,7 +39,7 @@ KINDS = [
     ("rattle", r"crates/.*|crates\.txt|HANDLES", ""),  # `rt ci` judges these
     ("made", r"docs/generated/.*|docs/openapi\.yaml|release/(KIT|SHA256|SOURCES|examoffice)"
      r"|release/share/(?!man).*", ""),  # compared with what makes them, by other parts of the tests
-    ("tool", r"tools/.*\.py|front/agent\.py", ""), ("tool", r"tools/.*", "#!.*python"),
+    ("tool", r"tools/.*\.py|front/.*\.py", ""), ("tool", r"tools/.*", "#!.*python"),
     ("python", r".*\.py", ""), ("python", r".*", "#!.*python"), ("shell", r".*", "#!.*sh$"),
     ("page script", r"front/page/.*\.js", ""), ("script", r".*\.m?js", ""),
     ("html", r".*\.html", ""), ("style", r".*\.css", ""), ("nginx", r"front/.*\.conf", ""),
@@ -121,7 +121,7 @@ def mypy(path, names, *options):
 
 
 def mypy_of_tools(kinds):
-    return mypy("tools", kinds["tool"], "--strict")
+    return mypy("tools:front", kinds["tool"], "--strict")
 
 
 def mypy_of_tests(kinds):

@@ -3,7 +3,8 @@
 
 Before the office of examples/university stand the queue, the agent and the front, with an account
 for each of 25,000 students; all is on this machine. A part is one of PARTS, by default all. Each
-prints its lines of the table in docs/OPERATING.md. `day` and `attack` take N minutes (10) each.
+prints its lines of the table in docs/OPERATING.md. `day` and `attack` take N minutes (10) each,
+`morning` 6, which are a tenth of its hour.
 """
 import argparse
 import asyncio
@@ -11,6 +12,8 @@ import collections
 import concurrent.futures
 import contextlib
 import http.client
+import importlib
+import math
 import multiprocessing
 import os
 import pathlib
@@ -26,16 +29,24 @@ import time
 import browser
 import front_queue
 import front_sign_in
+import limits
 from front_sign_in import jwt, processor_seconds
 from run_front import Front
 from run_serve import Run
 
 TOP = pathlib.Path(__file__).resolve().parent.parent
+sys.path.append(str(TOP / "front"))
+codes = importlib.import_module("codes")
 UNIVERSITY = TOP / "examples" / "university"
 # Requests a second of 25,000 people who come within ten minutes, two each.
 RATE = 84
 CANDIDATES, ATTACKERS, SLOW, SIGN_INS = 300, 100, 17_500, 2_000
-KILL_SECONDS = 8
+KILL_SECONDS, KILLS, UPGRADES = 8, 20, 20
+# First sign-ins a second, 25,000 in an hour; each how manieth is mistyped once; guesses a second of
+# a guest at the same address, and of strangers, each from a fresh address.
+FIRST, MISTYPED, GUEST, STRANGERS = 25_000 / 3_600, 10, 10, 200
+# What an account may get of guesses in a minute (front/limits).
+MOST_GUESSES = 10
 # How often the cost of a request is measured, for how many candidates, by how many clients; how
 # often each candidate asks, on a kept connection, as their page does.
 ROUNDS, PEOPLE, CLIENTS, OF_A_PAGE = 50, 80, 4, 5
@@ -63,6 +74,10 @@ class Waits:
                 f" 99 % {late:.2f} s, worst {ordered[-1]:.2f} s")
 
 
+class Queue(front_sign_in.SignInQueue, front_queue.ReloadedQueue):
+    """HAProxy with all that it does, which can be reloaded."""
+
+
 class University:
     """The office, its front, and who is signed in."""
 
@@ -87,13 +102,17 @@ class University:
         subprocess.run(["cp", "-r", TOP / "front", folder], check=True)
         hashed = subprocess.run(["openssl", "passwd", "-apr1", "a word"], check=True, text=True,
                                 capture_output=True).stdout.strip()
+        # Each has a password that somebody chose, and the code of a letter.
+        self.codes = {number: codes.made() for number in self.students}
         (folder / "users").write_text("registry:{PLAIN}try-registry\n" + "".join(
-            f"s{number}:{hashed}\n" for number in self.students))
+            f"s{number}:{hashed}:{codes.digest(f's{number}', code)}\n"
+            for number, code in self.codes.items()))
         (folder / "callers").write_text("registry office;\n" + "".join(
             f"s{number} cand:{number};\n" for number in self.students))
         self.agent = front_sign_in.Agent(run.folder, folder, self.key)
         begun.callback(self.agent.stop)
-        self.queue = front_sign_in.SignInQueue(run.folder / "queue", self.port, self.agent)
+        self.agent.environment["OFFICE_WAIT"] = limits.numbers()["OFFICE_WAIT"]
+        self.queue = Queue(run.folder / "queue", self.port, self.agent)
         begun.callback(self.queue.stop)
         self.front = Front(run.folder, self.queue.address,
                            (("include password.conf", "include sign_in.conf"),))
@@ -113,14 +132,14 @@ class University:
                  self.cookie(user), *([f"Content-Length: {len(body)}"] if body else []), "", ""]
         return "\r\n".join(lines).encode() + body
 
-    async def ask(self, message, source="127.0.0.1"):
+    async def ask(self, message, source="127.0.0.1", seconds=SECONDS):
         """The status, and the seconds until the whole reply was there."""
         began = time.monotonic()
         try:
             reader, writer = await asyncio.open_connection(
                 "127.0.0.1", self.front.port, local_addr=(source, 0))
             writer.write(message)
-            came = await asyncio.wait_for(reader.read(-1), SECONDS)
+            came = await asyncio.wait_for(reader.read(-1), seconds)
             writer.close()
             status = int(came.split(b" ", 2)[1]) if came else "closed"
         except (OSError, asyncio.TimeoutError) as fault:
@@ -195,11 +214,7 @@ async def sign_ins(university):
     waits, turn, tasks = Waits(), time.monotonic(), []
 
     async def one(user):
-        body = f"user={user}&password=a+word".encode()
-        waits.add(*await university.ask("\r\n".join([
-            "POST /-/sign-in HTTP/1.1", f"Host: {university.host}", "Connection: close",
-            "Content-Type: application/x-www-form-urlencoded", f"Content-Length: {len(body)}",
-            "", ""]).encode() + body))
+        waits.add(*await university.ask(form(university, user, "a+word")))
 
     for number in university.students[:SIGN_INS]:
         tasks.append(asyncio.create_task(one(f"s{number}")))
@@ -209,23 +224,107 @@ async def sign_ins(university):
     print(f"{SIGN_INS} first sign-ins, 7 a second: {waits}", flush=True)
 
 
-async def restarts(university):
-    """The office is killed twelve times under 700 clients."""
-    waits, end = Waits(), time.monotonic() + 12 * KILL_SECONDS + 5
+def form(university, user, word):
+    """A form to sign in."""
+    body = f"user={user}&password={word}".encode()
+    return "\r\n".join([
+        "POST /-/sign-in HTTP/1.1", f"Host: {university.host}", "Connection: close",
+        "Content-Type: application/x-www-form-urlencoded", f"Content-Length: {len(body)}", "", ""
+    ]).encode() + body
 
-    async def client(number):
-        message = university.message(f"s{university.students[number]}")
+
+def mistyped(code):
+    """A code with another sign, or one sign too few."""
+    place = random.choice([number for number, sign in enumerate(code) if sign != "-"])
+    return code[:place] + random.choice(["", "z" if code[place] != "z" else "y"]) + code[place + 1:]
+
+
+async def morning(university, minutes):
+    """The hour in which everybody signs in for the first time, by one address: who guesses is at
+    the same address and elsewhere, and every right code is taken at once."""
+    began, (right, waits, looks, typos) = time.monotonic(), (Waits() for _ in range(4))
+    guest, strangers, reached = Waits(), Waits(), collections.Counter()
+    campus, fresh = "127.1.0.1", iter(
+        front_queue.addresses(int(STRANGERS * (minutes * 60 + 60))))
+    existing = ["registry", *(f"s{number}" for number in university.students)]
+
+    async def first(turn):
+        number = university.students[turn % len(university.students)]
+        code = university.codes[number]
+        looks.add(*await university.ask(
+            f"GET /-/sign-in HTTP/1.1\r\nHost: {university.host}\r\nConnection: close\r\n\r\n"
+            .encode(), campus))
+        if turn % MISTYPED == 0:
+            typos.add(*await university.ask(form(university, f"s{number}", mistyped(code)), campus))
+        right.add(*await university.ask(form(university, f"s{number}", code), campus))
+
+    async def guesses_at(turn, source, found):
+        # Half of them have names that exist: every second of these the registry.
+        user = (f"nobody-{turn}" if turn % 2 else "registry" if turn % 4
+                else random.choice(existing))
+        word = codes.made() if turn % 3 == 0 else "guess"
+        # Longer than the queue keeps them, so that no reply is missed.
+        status, seconds = await university.ask(form(university, user, word), source, 2 * SECONDS)
+        found.add(status, seconds)
+        reached[user] += status == 401 and word == "guess"
+
+    async def each_second(rate, act):
+        tasks, turn, end = set(), 0, time.monotonic() + minutes * 60
         while time.monotonic() < end:
-            waits.add(*await university.ask(message))
-            await asyncio.sleep(1 + random.random())
+            tasks.add(task := asyncio.create_task(act(turn)))
+            task.add_done_callback(tasks.discard)
+            turn += 1
+            await asyncio.sleep(max(0, end - minutes * 60 + turn / rate - time.monotonic()))
+        await asyncio.gather(*tasks)
 
-    async def killer():
-        for _ in range(12):
+    visiting = asyncio.create_task(visits(university, waits, minutes * 60, CANDIDATES / 10, campus))
+    await asyncio.gather(
+        visiting, each_second(FIRST, first),
+        each_second(GUEST, lambda turn: guesses_at(turn, campus, guest)),
+        each_second(STRANGERS, lambda turn: guesses_at(turn, next(fresh), strangers)))
+    # Some of them are answered after the last one was sent.
+    most = max(reached.values(), default=0) / math.ceil((time.monotonic() - began) / 60)
+    print(f"the first morning, {minutes:g} minutes of its 60, {FIRST:.1f} a second of one address:"
+          f" {right}\nthe form: {looks}\nmistyped ones: {typos}\nguesses there: {guest}\n"
+          f"guesses of strangers: {strangers}\nwho is signed in there: {waits}\n"
+          f"guesses that reached an account: at most {most:.1f} a minute", flush=True)
+    if set(right.statuses) != {303} or max(right.seconds) > 60 or most > MOST_GUESSES:
+        sys.exit("the first morning: a right code was refused, or late, or guesses reached too far")
+
+
+async def restarts(university):
+    """The office is killed under 700 clients, and then upgraded with what is before it."""
+    for name, count, act in (("kills", KILLS, kill), ("upgrades", UPGRADES, upgrade)):
+        waits, is_over = Waits(), asyncio.Event()
+
+        async def client(number, waits=waits, is_over=is_over):
+            message = university.message(f"s{university.students[number]}")
+            while not is_over.is_set():
+                waits.add(*await university.ask(message))
+                await asyncio.sleep(1 + random.random())
+
+        async def acts(count=count, act=act, is_over=is_over):
+            for _ in range(count):
+                await asyncio.sleep(KILL_SECONDS)
+                await asyncio.to_thread(act, university)
             await asyncio.sleep(KILL_SECONDS)
-            university.office.process.kill()
+            is_over.set()
 
-    await asyncio.gather(killer(), *map(client, range(700)))
-    print(f"12 kills under 700 clients: {waits}", flush=True)
+        await asyncio.gather(acts(), *map(client, range(700)))
+        print(f"{count} {name} under 700 clients: {waits}", flush=True)
+
+
+def kill(university):
+    university.office.process.kill()
+
+
+def upgrade(university):
+    """What the package does: HAProxy and nginx read their files again, the others start again."""
+    university.queue.reload()
+    university.front.reload()
+    university.office.process.terminate()
+    university.agent.stop()
+    university.agent.start()
 
 
 def guesses(university_port, host, sources, seconds, found):
@@ -360,7 +459,7 @@ def main():
     words = argparse.ArgumentParser(description=__doc__.partition("\n")[0])
     words.add_argument("program")
     words.add_argument("part", nargs="*", default=[*PARTS])
-    words.add_argument("--minutes", type=float, default=10)
+    words.add_argument("--minutes", type=float)
     given = words.parse_args()
     if front_sign_in.missing():
         sys.exit(f"these are missing: {' '.join(front_sign_in.missing())}")
@@ -370,7 +469,7 @@ def main():
         try:
             for part in given.part:
                 function = PARTS[part]
-                more = (given.minutes,) if part in ("day", "attack") else ()
+                more = (given.minutes or MINUTES[part],) if part in MINUTES else ()
                 asyncio.run(function(university, *more))
         finally:
             university.stop()
@@ -378,7 +477,8 @@ def main():
 
 
 PARTS = {"day": day, "at_once": at_once, "sign_ins": sign_ins, "restarts": restarts,
-         "attack": attack, "cost": cost}
+         "morning": morning, "attack": attack, "cost": cost}
+MINUTES = {"day": 10, "attack": 10, "morning": 6}
 
 if __name__ == "__main__":
     sys.exit(main())

@@ -61,6 +61,15 @@ QUICK = (("rate=20r/s", "rate=9000r/s"), ("rate=300r/s", "rate=9000r/s"),
          ("client_body_timeout 10s", "client_body_timeout 4s"), ("rate=2r/s", "rate=9000r/s"))
 
 
+def is_leaving(worker):
+    """A worker of nginx that only ends what it has begun, or is gone: a connection that somebody
+    keeps open may hold it for long."""
+    try:
+        return b"shutting down" in pathlib.Path(f"/proc/{worker}/cmdline").read_bytes()
+    except OSError:
+        return True
+
+
 class Front:
     """nginx with a copy of the front's folder, before an office on that port."""
 
@@ -136,8 +145,8 @@ class Front:
         self.process.send_signal(signal.SIGHUP)
         old = pathlib.Path(f"/proc/{self.process.pid}/task/{self.process.pid}/children")
         workers = set(old.read_text().split())
-        browser.until("the old workers are gone",
-                      lambda: not workers & set(old.read_text().split()))
+        browser.until("the old workers take no more connections", lambda: all(
+            is_leaving(worker) for worker in workers & set(old.read_text().split())))
 
     def stop(self):
         self.process.terminate()
@@ -546,6 +555,20 @@ def single_sign_on(run, front):
         status, header, _ = front.fetch(path, Accept="text/html,*/*", Host="exams.example")
         run.judge(f"{path} sends to sign in", (302, f"http://exams.example/oauth2/start?rd={path}"),
                   (status, header["Location"]))
+    for path, asked in (("/registry.html?a=b&rd=//evil", "/registry.html"), ("//evil", "/"),
+                        ("/me%0d%0ax", "/"), ("/me&rd=//evil", "/")):
+        came = front.fetch(path, Accept="text/html,*/*", Host="exams.example")
+        run.judge(f"{path} sends to sign in", f"http://exams.example/oauth2/start?rd={asked}",
+                  came[1]["Location"])
+    front.fetch("/oauth2/start?rd=/me", Host="exams.example", Cookie="a=b", Accept_Language="de",
+                User_Agent="x", X_Forwarded_Host="evil", X_Forwarded_Uri="//evil", Forwarded="x",
+                X_Auth_Request_Redirect="//evil", X_Forwarded_For="1.2.3.4", X_Real_IP="1.2.3.4",
+                X_Forwarded_Proto="https", X_Auth_Request_User="registry", Authorization="x")
+    run.judge("what the agent of single sign-on gets", {
+        "Host": "exams.example", "Cookie": "a=b", "Accept-Language": "de", "User-Agent": "x",
+        "X-Forwarded-Proto": "http", "X-Forwarded-Host": "exams.example", "X-Real-IP": "127.0.0.1",
+        "X-Forwarded-Uri": "/oauth2/start?rd=/me", "X-Forwarded-For": "127.0.0.1",
+        "Connection": "close"}, sign_on.Agent.header)
     run.judge("health", (200, b'{"health":"ok"}'), told("/health"))
 
 
@@ -615,7 +638,8 @@ def words_of_pages(run):
     run.judge("rules in words", set(re.findall(r"`(\w+)`", rules)), keys("RULES"))
     run.judge("faults in words", set(), keys("FAULTS") - set(
         re.findall(r"^\| (\d+) [A-Z]\w+ \|", numbered, re.M)))
-    of_the_front = {"often", "ledger", "ledger-differs", "names", "files-differ", "unreadable"}
+    of_the_front = {"often", "ledger", "ledger-differs", "names", "files-differ", "unreadable",
+                    "plan-differs"}
     run.judge("errors in words", {error for _, error in openapi.formats()[0]} | of_the_front,
               keys("REFUSALS") | {"forbidden", "broken", "unplaced", "file"})
 

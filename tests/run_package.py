@@ -213,6 +213,46 @@ def of_the_manual(judged, folder):
             "mandoc", "-T", "lint", "-W", "warning", page))
 
 
+STUBS = {
+    "systemctl": "case $1 in is-enabled) exit $IS_OFF ;; esac\necho \"$*\" >> \"$ROOM/asked\"\n",
+    "dpkg": "[ -z \"$CHANGED\" ] || echo '??5?????? c /etc/nginx/nginx.conf'\n",
+    "dpkg-query": "case $1$2 in --search*shipped*) ;; --control-path*) [ -e \"$ROOM/info/$2\" ] &&"
+                  " echo \"$ROOM/info/$2\" ;; *) exit 1 ;; esac\n"}
+
+
+def of_other_servers(judged, folder):
+    """A server of Debian's is switched off only if it came along and nobody has set it up."""
+    for name, text in STUBS.items():
+        (folder / "bin").mkdir(exist_ok=True)
+        (folder / "bin" / name).write_text(f"#!/bin/sh\n{text}")
+        (folder / "bin" / name).chmod(0o755)
+
+    def ended(case, old=False, changed="", is_off="0", files=()):
+        room = folder / f"servers {case}"
+        for name in ("info", "etc/sites-enabled", "www/html"):
+            (room / name).mkdir(parents=True)
+        (room / "asked").touch()
+        for name in ("etc/shipped.conf", "etc/sites-enabled/default", "info/nginx-common",
+                     "www/html/index.nginx-debian.html", *files):
+            (room / name).touch()
+        status, said = ran(
+            TOP / "packaging" / "switch_off", "nginx.service", room / "etc", "nginx-common",
+            "nginx-light", env={
+                **os.environ, "PATH": f"{folder / 'bin'}:{os.environ['PATH']}", "CHANGED": changed,
+                "IS_OFF": is_off, "ROOM": str(room), "EXAMOFFICE_MINUTES": "0" if old else "60",
+                "EXAMOFFICE_PAGES": str(room / "www")})
+        return status, said.count("\n"), (room / "asked").read_text()
+
+    off, kept = (0, 1, "disable --now nginx.service\n"), (0, 1, "")
+    for case, expected, more in (
+            ("that came along", off, {}), ("that was there", kept, {"old": True}),
+            ("that is changed", kept, {"changed": "1"}),
+            ("that is off", (0, 0, ""), {"is_off": "1"}),
+            ("with a site", kept, {"files": ["etc/sites-enabled/exams"]}),
+            ("with a page", kept, {"files": ["www/html/index.html"]})):
+        judged.judge(f"Debian's server {case}", expected, ended(case, **more))
+
+
 def main():
     judged = Cases("package")
     of_the_repository(judged)
@@ -223,6 +263,7 @@ def main():
     with tempfile.TemporaryDirectory() as folder:
         os.chmod(folder, 0o755)
         of_removal(judged, pathlib.Path(folder))
+        of_other_servers(judged, pathlib.Path(folder))
         of_the_package(judged, pathlib.Path(folder))
     return judged.end()
 

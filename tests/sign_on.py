@@ -10,12 +10,15 @@ class Agent(http.server.BaseHTTPRequestHandler):
 
     # Who signs in at the provider next.
     signs_in = "ada"
+    # The header of the last request.
+    header = None
 
     def do_POST(self):
         self.do_GET()
 
     def do_GET(self):
         path, _, query = self.path.partition("?")
+        Agent.header = {name: text for name, text in self.headers.items()}
         user = re.search(r"signed_in=(\w+)", self.headers.get("Cookie", ""))
         if path == "/oauth2/auth" and user:
             self.answer(202, X_Auth_Request_User=user[1])
