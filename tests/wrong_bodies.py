@@ -42,6 +42,7 @@ from dataclasses import dataclass
 from functools import cache
 from pathlib import Path
 from queue import Empty, SimpleQueue
+from threading import Lock
 
 from cases import Cases
 from meaning import WORD, deciding, index_of, parts_of, seeds_of
@@ -192,11 +193,18 @@ def upwards(names):
 
 def try_crate(name, checks):
     """Tries the crate's wrong bodies, and returns how many of them were refused."""
-    before, begun = hashes(name), time.monotonic()
+    before, begun, noting = hashes(name), time.monotonic(), Lock()
     edits = [Edit(name, at) for at in wanted_of(name)]
     with Copies(name) as copies:
+        def refused_in(batch):
+            refused = try_together(copies, batch)
+            # noted at once, so that a run that is stopped has not been for nothing
+            with noting:
+                keep(name, before, {edit.at.name for edit in refused})
+            return refused
+
         def refused_of(batches):
-            return sum(checks.map(lambda batch: try_together(copies, batch), batches), [])
+            return sum(checks.map(refused_in, batches), [])
 
         refused = refused_of(batches(edits))
         alone = [edit for edit in edits if edit not in refused]
