@@ -1,23 +1,19 @@
 -- The records after a command are records of an office again.
-use Rattle.std.proofs.Common.{◌≡◌, ◌≢◌, ℕ, ◌<◌, ◌≤◌, Bool, true, false, not, cond, eqb, List, [], ◌∷◌, length, Option, Some, None, Ok, inl, inr, refl, sym, subst, ◌∙◌, arith}
-use Rattle.std.specs.Prelude.{◌==◌, ◌&&◌, IsSome, nat_lt, slice_set}
+use Rattle.std.proofs.lemmas.Grind.{common_steps}
+use Rattle.std.proofs.Common.{◌≡◌, ◌≢◌, ℕ, ◌<◌, ◌≤◌, Bool, true, false, cond, eqb, List, [], ◌∷◌, length, Option, Some, None, Ok, inl, inr, refl, sym, subst, ◌∙◌, arith, rules, ◌==◌, ◌&&◌, IsSome, slice_set}
 use Rattle.std.proofs.lemmas.Bool.{cases_lt, ltb-true, and_parts}
 use Rattle.std.proofs.lemmas.Bool.Decides.{nat_tests}
 use Rattle.std.proofs.lemmas.List.{get_or_past, length-set}
 use Rattle.std.proofs.lemmas.List.Elements.{All-get_or, All-set}
 use Rattle.std.proofs.lemmas.Option.{same_Some}
-use Rattle.exam_terms.specs.Refusing.{unless}
 use Rattle.exam_terms.specs.declared.place.Place.{Place}
 use Rattle.exam_model.specs.Enrolments.{Enrolled, AreEnrolments}
 use Rattle.exam_model.specs.Fits.{Fits, PlaceExists}
 use Rattle.exam_model.specs.Instance.{Session, IsInstance}
 use Rattle.exam_model.specs.Timetable.{Placing, place_of}
-use Rattle.exam_draft.specs.Edits.{after_put, edit_result, exam_exists, if_unbroken, is_placed, place_exists, unless_broken}
+use Rattle.exam_draft.specs.Edits.{after_put, edit_result, exam_exists, if_unbroken, place_exists}
 use Rattle.exam_draft.specs.declared.edit.Edit.{Edit}
 use Rattle.exam_draft.specs.declared.edit.Edit.TheVariants as edit
-use Rattle.exam_draft.specs.declared.fault.EditFault.TheVariants.{AlreadyPlaced, NoSuch, NotPlaced, SameExam}
-use Rattle.exam_rules.specs.Breaches.{least_breach_of}
-use Rattle.exam_rules.specs.declared.breach.Breach.{Breach}
 use Rattle.exam_publish.specs.Permit.{first_unplaced, least_breach, publish_refusal}
 use Rattle.exam_publish.specs.Published.{AreSeats}
 use Rattle.exam_publish.specs.Seats.{AreSeated}
@@ -132,17 +128,7 @@ left_records r d h = record {
 -- ---- publication
 
 pub old_seated : (r : Records) → AreRecords r → AreSeated r.session (publication_rows r.published)
-old_seated r is = go r.published is.publication
-  where
-    go : (published : Option Publication)
-        → ((p : Publication) → published ≡ Some p → IsPublication r.session p)
-        → AreSeated r.session (publication_rows published)
-    go None each = record {
-      in_order = λ i j d before none. absurd (omega (arith, none));
-      within = λ k d none. absurd (omega (arith, none));
-      own = λ i j d before none. absurd (omega (arith, none));
-    }
-    go (Some p) each = (each p refl).seated
+old_seated r is = grind (arith, common_steps)
 
 module _ (r : Records) (T : Placing) (is : AreRecords r) (fits : Fits r.session r.enrolments T)
     (permitted : publish_refusal r.session r.enrolments T ≡ None) where
@@ -150,14 +136,10 @@ module _ (r : Records) (T : Placing) (is : AreRecords r) (fits : Fits r.session 
   new_one = published_as r T
 
   pub are : AreSeats r.session r.enrolments T new_one.rows
-  are = are_seats r.session r.enrolments T
-      (publication_rows r.published) fits is.enrolled.set permitted
-      (old_seated r is)
+  are = search (rules, are_seats, old_seated)
 
   same : enrolled_in (length r.session.exams) new_one.rows ≡ r.enrolments
-  same = same_enrolments r.session r.enrolments T
-      (publication_rows r.published) is.session is.enrolled.set
-      fits permitted (old_seated r is)
+  same = search (rules, old_seated, same_enrolments)
 
   pub is_publication : IsPublication r.session new_one
   is_publication = record {
@@ -193,24 +175,12 @@ fits_set I E T e at exists fits = record {
 
 unbroken_is : (I : Session) (E : Enrolled) (exams : List ℕ) (T new : Placing)
     → if_unbroken I E exams T ≡ Ok new → T ≡ new
-unbroken_is I E exams T new e = by (least_breach_of I E T exams) e
-  where
-    by : (b : Option Breach) → unless_broken b T ≡ Ok new → T ≡ new
-    by None is = cc
-    by (Some breach) is = absurd (cc is)
+unbroken_is I E exams T new e = grind (arith)
 
 module _ (I : Session) (E : Enrolled) (T : Placing) (fits : Fits I E T) where
   put_fits : (e : ℕ) (at : Place) (new : Placing) → (exam_exists I e && place_exists I at) ≡ true
       → after_put I E T e at ≡ Ok new → Fits I E new
-  put_fits e at new exist is =
-      let place = (and_parts (exam_exists I e) (place_exists I at) exist).1 in
-      let both = and_parts (nat_lt at.period (length I.periods))
-      (nat_lt at.room (length I.rooms)) place in
-      subst (Fits I E) (unbroken_is I E (e ∷ []) (slice_set T e (Some at)) new is)
-      (fits_set I E T e (Some at) (
-        ltb-true at.period (length I.periods) both.0,
-        ltb-true at.room (length I.rooms) both.1,
-      ) fits)
+  put_fits e at new exist is = grind (arith, and_parts, fits_set, ltb-true, unbroken_is)
 
   -- the place of an exam exists, if it has one
   each_exists : (e : ℕ) → PlaceExists I (place_of T e)
@@ -220,27 +190,7 @@ module _ (I : Session) (E : Enrolled) (T : Placing) (fits : Fits I E T) where
   ]
 
   pub edited_fits : (change : Edit) (new : Placing) → edit_result I E T change ≡ Ok new → Fits I E new
-  edited_fits (edit.Place e at) new is =
-      let known = exam_exists I e && place_exists I at in
-      let one = bind_ok (unless known NoSuch) _ new is in
-      let two = bind_ok (unless (not (is_placed T e)) AlreadyPlaced) _ new one.2 in
-      put_fits e at new (unless_ok known NoSuch one.0 one.1) two.2
-  edited_fits (edit.Move e at) new is =
-      let known = exam_exists I e && place_exists I at in
-      let one = bind_ok (unless known NoSuch) _ new is in
-      let two = bind_ok (unless (is_placed T e) NotPlaced) _ new one.2 in
-      put_fits e at new (unless_ok known NoSuch one.0 one.1) two.2
-  edited_fits (edit.Swap a b) new is =
-      let one = bind_ok (unless (exam_exists I a && exam_exists I b) NoSuch) _ new is in
-      let two = bind_ok (unless (is_placed T a && is_placed T b) NotPlaced) _ new one.2 in
-      let three = bind_ok (unless (not (a == b)) SameExam) _ new two.2 in
-      let first = slice_set T a (place_of T b) in
-      subst (Fits I E)
-      (unbroken_is I E (a ∷ (b ∷ [])) (slice_set first b (place_of T a)) new three.2)
-      (fits_set I E first b (place_of T a) (each_exists a)
-      (fits_set I E T a (place_of T b) (each_exists b) fits))
-  edited_fits (edit.Clear e) new is =
-      let one = bind_ok (unless (exam_exists I e) NoSuch) _ new is in
-      let two = bind_ok (unless (is_placed T e) NotPlaced) _ new one.2 in
-      let same : slice_set T e None ≡ new = cc in
-      subst (Fits I E) same (fits_set I E T e None tt fits)
+  edited_fits (edit.Place e at) new is = grind (arith, bind_ok, put_fits, unless_ok)
+  edited_fits (edit.Move e at) new is = grind (arith, bind_ok, put_fits, unless_ok)
+  edited_fits (edit.Swap a b) new is = grind (arith, bind_ok, each_exists, fits_set, unbroken_is)
+  edited_fits (edit.Clear e) new is = grind (arith, bind_ok, fits_set)

@@ -1,7 +1,6 @@
 -- A candidate's rows, made from the places of their exams and their seat rows.
-use Rattle.std.specs.List.{AllByRecursion, cons_option, list_any}
-use Rattle.std.proofs.Common.{◌≡◌, ℕ, Bool, true, false, cond, ◌||◌, eqb, List, [], ◌∷◌, ◌++◌, map, Option, Some, None, option_map, refl, sym, ◌∙◌, ap, eqb-true}
-use Rattle.std.proofs.lemmas.Bool.{eq-eqb}
+use Rattle.std.specs.List.{AllByRecursion, list_any}
+use Rattle.std.proofs.Common.{◌≡◌, ℕ, Bool, true, ◌||◌, eqb, List, [], ◌∷◌, ◌++◌, map, Option, Some, None, refl, sym, ◌∙◌, ap, eqb-true, arith, eq-eqb}
 use Rattle.std.proofs.lemmas.List.Elements.{recursion_from_All}
 use Rattle.std.proofs.lemmas.List.Folds.{list_any-append}
 use Rattle.exam_lists.proofs.Tests.{any_map}
@@ -22,42 +21,13 @@ module _ (published : Option Publication) where
   none_found : (e : ℕ) → published_place published e ≡ None → (es : List ℕ)
       → place_in (places_in published es) e ≡ None
   none_found e none [] = refl
-  none_found e none (x ∷ es) =
-      go (published_place published x) refl (eqb x e) refl (none_found e none es)
-    where
-      rest : List (ℕ × Place)
-      rest = places_in published es
-
-      go : (at : Option Place) → published_place published x ≡ at → (b : Bool) → eqb x e ≡ b
-          → place_in (places_in published es) e ≡ None
-          → place_in (cons_option (option_map (λ at. (x, at)) at) (places_in published es)) e ≡ None
-      go None is b same later = later
-      go (Some at) is true same later =
-          absurd (clash at (sym is ∙ ap (published_place published) (eqb-true x e same) ∙ none))
-        where
-          clash : (at : Place) → Some at ≡ None → ⊥
-          clash at h = cc
-      go (Some at) is false same later = rw same later
+  none_found e none (x ∷ es) = grind (arith, none_found e none es, eqb-true)
 
   -- an exam of the list is found with its place
   found : (e : ℕ) (es : List ℕ) → list_any (λ x. eqb x e) es ≡ true
       → place_in (places_in published es) e ≡ published_place published e
   found e [] has = cc
-  found e (x ∷ es) has = go (published_place published x) refl (eqb x e) refl (found e es)
-    where
-      here : eqb x e ≡ true → published_place published x ≡ published_place published e
-      here same = ap (published_place published) (eqb-true x e same)
-
-      go : (at : Option Place) → published_place published x ≡ at → (b : Bool) → eqb x e ≡ b
-          → (list_any (λ x. eqb x e) es ≡ true
-          → place_in (places_in published es) e ≡ published_place published e)
-          → place_in (cons_option (option_map (λ at. (x, at)) at) (places_in published es)) e
-          ≡ published_place published e
-      go None is true same later =
-          let none = sym (here same) ∙ is in none_found e none es ∙ sym none
-      go (Some at) is true same later = rw same (sym is ∙ here same)
-      go None is false same later = later (rw same at has)
-      go (Some at) is false same later = rw same (later (rw same at has))
+  found e (x ∷ es) has = grind (arith, found e es, eqb-true, none_found)
 
   -- the published place of one of the candidate's exams
   placed : (enrolled : List ℕ) (seats : List SeatRow)
@@ -66,23 +36,8 @@ module _ (published : Option Publication) where
       → (list_any (λ x. eqb x e) enrolled || list_any (λ row. eqb row.exam e) seats) ≡ true
       → place_of_seat (seat_in seats e) (place_in (places_in published enrolled) e)
       ≡ published_place published e
-  placed enrolled [] at e has = found e enrolled (or_false _ has)
-    where
-      or_false : (b : Bool) → (b || false) ≡ true → b ≡ true
-      or_false true h = refl
-      or_false false h = h
-  placed enrolled (row ∷ seats) at e has =
-      go (eqb row.exam e) refl (placed enrolled seats at.1 e)
-    where
-      go : (b : Bool) → eqb row.exam e ≡ b
-          → ((list_any (λ x. eqb x e) enrolled || list_any (λ row. eqb row.exam e) seats) ≡ true
-          → place_of_seat (seat_in seats e) (place_in (places_in published enrolled) e)
-          ≡ published_place published e)
-          → place_of_seat (cond b (Some row) (seat_in seats e))
-          (place_in (places_in published enrolled) e)
-          ≡ published_place published e
-      go true same later = sym at.0 ∙ ap (published_place published) (eqb-true row.exam e same)
-      go false same later = later (rw same at has)
+  placed enrolled [] at e has = grind (arith, found)
+  placed enrolled (row ∷ seats) at e has = grind (arith, placed enrolled seats at.1 e, eqb-true)
 
 -- ---- all exams of the candidate
 
@@ -93,10 +48,7 @@ module _ (I : Session) (published : Option Publication) (enrolled : List ℕ)
       → (list_any (λ x. eqb x e) enrolled || list_any (λ row. eqb row.exam e) seats) ≡ true
       → view_row I.periods enrolled places seats e
       ≡ shown_exam (view_from I enrolled published seats) e (published_place published e)
-  row_is e has =
-      let at = ap (λ ps. place_of_seat (seat_in seats e) (place_in ps e)) are.places
-      ∙ placed published enrolled seats (recursion_from_All _ seats are.seats) e has in
-      rw at refl
+  row_is e has = grind (arith, placed, recursion_from_All)
 
   rows_are : (es : List ℕ)
       → ((e : ℕ) → list_any (λ x. eqb x e) es ≡ true
@@ -111,11 +63,7 @@ module _ (I : Session) (published : Option Publication) (enrolled : List ℕ)
       here = ap (λ b. b || list_any (λ y. eqb y x) es) (eq-eqb x x refl)
 
       there : (e : ℕ) → list_any (λ y. eqb y e) es ≡ true → list_any (λ y. eqb y e) (x ∷ es) ≡ true
-      there e has = or_true (eqb x e) _ has
-        where
-          or_true : (a b : Bool) → b ≡ true → (a || b) ≡ true
-          or_true true b h = refl
-          or_true false b h = h
+      there e has = grind (arith)
 
   -- the rows of the candidate's exams are those in their view
   pub rows_shown : map (view_row I.periods enrolled places seats) (candidate_exams enrolled seats)
