@@ -117,9 +117,11 @@ def sql_is_known_below(crates, knows):
 
 
 def messages_know_no_route(crates, knows):
-    """office_messages uses no crate of the repository but the lemmas about lists, and no router."""
+    """office_messages uses no crate of the repository but the lemmas about lists and the texts that
+    are written, and no router."""
+    below = "exam_lists", "office_output"
     for name, where in knows["office_messages"].items():
-        if name in crates and name != "exam_lists" or name in ("matchit", "serde_json"):
+        if name in crates and name not in below or name in ("matchit", "serde_json"):
             yield f"office_messages knows {name} ({where})"
 
 

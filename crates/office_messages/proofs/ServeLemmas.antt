@@ -24,7 +24,8 @@ use Rattle.office_messages.specs.Stream.{PlainRequest, RequestAt}
 use Rattle.office_messages.specs.StreamFaults.{FaultAt, Unfinished}
 use Rattle.office_messages.specs.HeadEnds.{HasEnd}
 use Rattle.office_messages.specs.Messages.{Item, asks, fails, Messages, Begins}
-use Rattle.office_messages.specs.Serve.{AnswersItems, Serves, ServesFront, SendsFront}
+use Rattle.office_messages.specs.Serve.{AnswersItems, Serves, ServesFront}
+use Rattle.office_output.specs.Writing.{WritesFront}
 use Rattle.office_messages.proofs.HeadEndLemmas.{no_end}
 use Rattle.office_messages.proofs.HeadLemmas.{head_at_more}
 use Rattle.office_messages.proofs.MoreLemmas.{request_more, fault_more}
@@ -235,7 +236,7 @@ module _ {S : Type 0} (Answers : S → PlainRequest → PlainReply → S → Typ
         grind (arith, common_steps, append-nil, finished, with_end)
 
     -- the bytes written, and a front of one more reply
-    gone_out : (then : Option (List ℕ)) (text : List ℕ) → (part : SendsFront after then text)
+    gone_out : (then : Option (List ℕ)) (text : List ℕ) → (part : WritesFront after then text)
         → Appends before then ((p.output ++ []) ++ part.sent)
     gone_out then text part = grind (arith, common_steps, Appends-trans, append-nil)
 
@@ -256,7 +257,7 @@ module _ {S : Type 0} (Answers : S → PlainRequest → PlainReply → S → Typ
     pub unsent : (r : PlainRequest) (last : Bool) (rest : List ℕ) (reply : PlainReply) (next : S)
         (then : Option (List ℕ)) → n < 100
         → RequestAt r last buffer rest → Answers new r reply next
-        → SendsFront after then (reply_text (form_of r.method) reply)
+        → WritesFront after then (reply_text (form_of r.method) reply)
         → ServesFront Answers input before then old next serve_faults.Write
     unsent r last rest reply next then lt at step part = let text =
         reply_text (form_of r.method) reply in record {
@@ -296,7 +297,7 @@ module _ {S : Type 0} (Answers : S → PlainRequest → PlainReply → S → Typ
 
     -- the same for the reply to a fault
     pub unrefused : (f : Fault) (form : Form) (then : Option (List ℕ)) → n < 100
-        → FaultAt f form buffer → SendsFront after then (reply_text form (fault_reply f))
+        → FaultAt f form buffer → WritesFront after then (reply_text form (fault_reply f))
         → ServesFront Answers input before then old new serve_faults.Write
     unrefused f form then lt at part = let text = reply_text form (fault_reply f) in record {
       items = p.items ++ [];

@@ -11,13 +11,6 @@ use Rattle.office_messages.specs.declared.connection.Served.{Served}
 use Rattle.office_messages.specs.declared.connection.ServeFault.{ServeFault}
 use Rattle.office_messages.specs.declared.connection.ServeFault.TheVariants as serve_faults
 
--- a front of the text was written
-pub record SendsFront (before after : Option (List ℕ)) (text : List ℕ) : Type 0 where
-  pub sent : List ℕ
-  pub unsent : List ℕ
-  pub whole : text ≡ sent ++ unsent
-  pub written : Appends before after sent
-
 module _ {S : Type 0} (Answers : S → PlainRequest → PlainReply → S → Type 0) where
   -- from old the machine may answer these, with that output, and go on to new
   abbrev pub AnswersItems : List Item → S → List ℕ → S → Type 0

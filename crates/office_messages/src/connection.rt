@@ -5,14 +5,16 @@ ghost use Rattle.std.specs.Io.KnownBytes.{Consumes, Appends, IsAtEnd};
 ghost use Rattle.office_messages.specs.Form.{form_of};
 ghost use Rattle.office_messages.specs.Heads.{plain_request};
 ghost use Rattle.office_messages.specs.Reply.{PlainReply, plain_reply, reply_text, sent_body};
-ghost use Rattle.office_messages.specs.Serve.{Serves, ServesFront, SendsFront};
+ghost use Rattle.office_messages.specs.Serve.{Serves, ServesFront};
 ghost use Rattle.office_messages.specs.Stream.{PlainRequest};
+ghost use Rattle.office_output.specs.Writing.{WritesFront};
 
 use crate::form::Form;
 use crate::look::{Beginning, Stage, look};
 use crate::replies::{Reply, fault_reply};
 use crate::reply_heads::{HEAD_ROOM, put_head};
 use crate::request::Request;
+use office_output::write_text;
 use std::alloc::Global;
 use std::io::{ErrorKind, Read, Write};
 
@@ -84,9 +86,6 @@ enum Received {
 
 // The most bytes of a read.
 pub(crate) const PIECE: usize = 4096;
-
-// The most interruptions that are retried while a head or a body is written.
-const MOST_INTERRUPTIONS: u32 = 1_000;
 
 // Room for a head, and for most bodies after it, so that both are sent with one write.
 const REPLY_ROOM: usize = 4096;
@@ -175,7 +174,7 @@ fn answer<W: Write, M: Machine>(
         × OnOk result (Appends (W.contents writer.old) (W.contents writer.new)
         (reply_text (form_of request.now.method.now) reply))
         × IfErr result (λ fault. (fault ≡ ServeFault.Write)
-        × SendsFront (W.contents writer.old) (W.contents writer.new)
+        × WritesFront (W.contents writer.old) (W.contents writer.new)
         (reply_text (form_of request.now.method.now) reply)) }
     ensures room { HEAD_ROOM ≤ vec_capacity room.new }
 {
@@ -196,7 +195,7 @@ fn send<W: Write>(
     ensures ok { OnOk result (Appends (W.contents writer.old) (W.contents writer.new)
         (reply_text form (plain_reply reply.now))) }
     ensures err { IfErr result (λ fault. (fault ≡ ServeFault.Write)
-        × SendsFront (W.contents writer.old) (W.contents writer.new)
+        × WritesFront (W.contents writer.old) (W.contents writer.new)
         (reply_text form (plain_reply reply.now))) }
     ensures room { HEAD_ROOM ≤ vec_capacity room.new }
 {
@@ -220,27 +219,13 @@ fn sent_body(reply: &Reply, form: Form) -> &[u8]
     }
 }
 
-// Writes all of the bytes: continues after a short write, and retries an interrupted one.
+// Writes all of the bytes, or a front of them.
 fn write<W: Write>(writer: &mut W, bytes: &[u8]) -> Result<(), ServeFault>
     ensures ok { OnOk result (Appends (W.contents writer.old) (W.contents writer.new) bytes.now) }
     ensures err { IfErr result (λ fault. (fault ≡ ServeFault.Write)
-        × SendsFront (W.contents writer.old) (W.contents writer.new) bytes.now) }
+        × WritesFront (W.contents writer.old) (W.contents writer.new) bytes.now) }
 {
-    let mut rest = bytes;
-    let mut interruptions = 0;
-    while !rest.is_empty() {
-        match writer.write(rest) {
-            Ok(0) => return Err(ServeFault::Write),
-            Ok(n) => rest = &rest[n..],
-            Err(e) => {
-                if e.kind() != ErrorKind::Interrupted || interruptions == MOST_INTERRUPTIONS {
-                    return Err(ServeFault::Write);
-                }
-                interruptions += 1;
-            }
-        }
-    }
-    Ok(())
+    write_text(writer, bytes).map_err(|_| ServeFault::Write)
 }
 
 // Removes the first bytes of the buffer.
