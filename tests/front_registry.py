@@ -957,7 +957,10 @@ def history_on_the_page(page):
             ("set", "#history-words", "math101"), "click #history-find button",
             "click #history-found tbody tr:nth-child(2) button"], {
             "hash": "#late-changes", "value #batch-lines":
-            "student,exam,action\nr9,PHYS102,drop\nr9,MATH101,drop\n"}))
+            "student,exam,action\nr9,PHYS102,drop\nr9,MATH101,drop\n",
+            "#batch-takes-back": "These lines take back batch 20. Press Check."}),
+        ("lines of one's own", ("set", "#batch-lines", "r9,PHYS102,drop"), {
+            "hidden #batch-takes-back": True}))
 
 
 def sign_in_on_the_page(chromium, stack):

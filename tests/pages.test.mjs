@@ -10,9 +10,7 @@ globalThis.crypto ??= webcrypto;
 const { calendarText } = await import('../front/page/calendar.js');
 const { csvText } = await import('../front/page/csv.js');
 const { overlapsOf, pointsInWords } = await import('../front/page/conflicts.js');
-const {
-  countsOf, findingsIn,
-} = await import('../front/page/findings.js');
+const { countsOf, findingsIn, obstaclesOf } = await import('../front/page/findings.js');
 const { addressed } = await import('../front/page/sections.js');
 const {
   daysOfCandidate, daysOfPeriods, differingPlaces, gapsOf, loadOf, roomsInOrder, seatedIn, shadeOf, stepIn,
@@ -34,7 +32,7 @@ const {
 } = await import('../front/page/edits.js');
 const { reversed, Steps } = await import('../front/page/steps.js');
 const {
-  differenceMark, differenceText, forbidText, optionsIn, periodsInOrder, periodsOf, periodTyped,
+  differenceMark, differenceText, forbidText, optionsIn, periodsInOrder, periodsOf, periodTyped, seatsLeft,
   sharedByPeriod,
 } = await import('../front/page/places.js');
 
@@ -170,6 +168,12 @@ cases('conflicts', [
   ['a clash of which nobody is left', [['overlap', [1, 4]]], () => inShort(findingsIn(
     { breaches: [breachOf('Clash', 1, 4)], unplaced: [] }, new Map(),
     { ...BUSY, candidates: [[], [5], [], [], [1]] }, () => ''))],
+  ['what stops a publication', [
+    ['1 candidate has two exams at one time', '1 room is too small', '2 other rules are broken',
+      '1 exam is not placed'], ['1 rule is broken']],
+  () => [obstaclesOf(draftOf(breachOf('Clash', 0, 1), breachOf('Capacity', 0, 0), breachOf('After', 3, 0),
+    breachOf('Duration', 2, 2)), WHERE, BUSY),
+  obstaclesOf({ ...draftOf(breachOf('After', 3, 0)), unplaced: [] }, WHERE, BUSY)]],
   ['how many of a kind', { overlap: 4, seatless: 1, small: 1, unplaced: 0, rule: 0, three: 1 },
     () => countsOf(ofPublication(FOUND))],
 ]);
@@ -390,7 +394,13 @@ cases('the files of a new session', [
 const PLACES = ['period,room,penalty,rule,exam,other', '0,0,,Clash,0,3', '0,1,,Clash,0,3', '1,0,39,,,',
   '1,1,36,,,', '2,0,37,,,', '2,1,44,,,', '3,0,27,,,', '3,1,44,,,', ''].join('\n');
 const AT_2_0 = { period: 2, room: 0 };
-const shownOf = (text, here) => periodsOf(optionsIn(text), here).map(
+// Rooms of 650, 40 and 30 seats; in period 1 the room of 40 has an exam of 15.
+const LEFT = seatsLeft([{ exam: 0, period: 1, room: 1 }, { exam: 1, period: null, room: null }], [15, 9],
+  [650, 40, 30]);
+const SAME_POINTS = ['', ...[0, 1].flatMap((period) => [0, 1, 2].map((room) => `${period},${room},7,,,`)),
+  '2,0,7,,,', '2,1,8,,,', '2,2,8,,,', ''].join('\n');
+const noSeats = () => 0;
+const shownOf = (text, here, left = noSeats) => periodsOf(optionsIn(text), here, left).map(
   ({ period, best, free, isHere, fault, rooms }) => (
     [period, best && [best.room, best.points], free, isHere, fault?.rule ?? '', rooms.length]));
 const full = (...lines) => ['', ...lines].join('\n');
@@ -409,12 +419,17 @@ cases('where an exam can go', [
     [2, [1, 44], 1, true, '', 2], [3, [0, 27], 2, false, '', 2]], () => shownOf(PLACES, AT_2_0)],
   ['by points, by time, and without points', [[3, 1, 2, 0], [0, 1, 2, 3], [0, 1]],
     () => [[PLACES, 'points'], [PLACES, 'time'], [full('0,0,,Clash,0,1', '1,0,,Clash,0,1'), 'points']]
-      .map(([text, by]) => periodsInOrder(periodsOf(optionsIn(text), AT_2_0), by)
+      .map(([text, by]) => periodsInOrder(periodsOf(optionsIn(text), AT_2_0, noSeats), by)
         .map(({ period }) => period))],
   ['what forbids a period: a rule that no room keeps, before one that another room keeps',
     [[0, null, 0, false, 'After', 0], [1, null, 0, false, 'Capacity', 2]],
     () => shownOf(full('0,0,,Capacity,1,1', '0,1,,After,1,0', '1,0,,Capacity,1,1', '1,1,,Capacity,1,1'),
       { period: null, room: null })],
+  ['of places with equal points the one with the fewest seats left', [[2, 1, 0], [1, 2, 0], [0, 2, 1]],
+    () => periodsOf(optionsIn(SAME_POINTS), { period: null, room: null }, LEFT).map(({ best, rooms }) => {
+      assert.equal(best, rooms[0]);
+      return rooms.map(({ room }) => room);
+    })],
   ['the only place is where it is', [[0, null, 0, true, '', 0]],
     () => shownOf(full('0,0,0,,,'), { period: 0, room: 0 })],
   ['typed days and periods', [0, 1, null, 2, 2, 4, null, 5, null, null],

@@ -74,7 +74,7 @@ def states_of_exams(run, chromium, front):
     """A candidate who enrolled after the publication has no seat yet; one who withdrew reads
     that."""
     for user, row, note in (
-            ("cleo", [MATH101[2], HALL, "none yet", "No seat yet"],
+            ("cleo", [MATH101[2], HALL, "", "No seat yet"],
              "You enrolled in this exam after the timetable was published. You will get a seat "
              "when the "
              "timetable is next published."),

@@ -179,6 +179,18 @@ def taken_out(page, words):
         ("nothing is looked for", ("set", "#find", ""), {"texts #found p": []}))
 
 
+def asked_which(page, words):
+    """M on a cell with two exams asks which of them moves."""
+    page.steps(
+        ("two exams in a cell", [f"click {OPTICS}", MOVE, f"click {CELL % (1, 3)}"], {
+            "said": f"PHYS102: {words.hall[1]}. 39 points now, 37 before."}),
+        ("which of them", [f"focus {CELL % (1, 3)}", "write m"], {
+            "#cell-question": "Which of the 2 exams moves?", "focused": "Move MATH102 …"}),
+        ("the second", "press tab", {"focused": "Move PHYS102 …"}),
+        ("and back", "undo", {
+            "said": f"PHYS102: {words.hall[2]}. 37 points now, 39 before."}))
+
+
 SWAPS = "titles #swap-others .place"
 
 
@@ -273,6 +285,7 @@ def editing(run, chromium, edited):
         shut_places(page, edited.front)
         by_clicks(page, words)
         by_keys(page, edited.front, words)
+        asked_which(page, words)
         taken_out(page, words)
         swapped(page, words)
         changed_meanwhile(page, edited, words)

@@ -147,6 +147,7 @@ def sections(run, chromium, front):
 # ---- Publishing
 
 ASKS = ["focus #publish", "press enter"]
+STOPPED = "This draft can't be published: %s. Show the conflicts"
 # What the page says of work that takes a second and a half, at its end and after it.
 LONG_WORK = """return (async () => {
     const scripts = document.querySelector('script[type=module]').src;
@@ -179,10 +180,18 @@ def publishing_asks(page, front):
     page.judge("what is published isn't published again", {"hidden #publish": True})
     page.steps(*(
         (f"what can be published of card {place}", f"click {OPEN % place}",
-         {"hidden #publish": False, "disabled #publish": is_refused, VERDICT % place: verdict})
-        for place, is_refused, verdict in (
-            (3, True, "Breaks rules: 1 violation"),
-            (4, True, "Breaks no rule; 4 exams not placed"), (2, False, "Breaks no rule"))))
+         {"hidden #publish": False, "disabled #publish": bool(stops), VERDICT % place: verdict,
+          "hidden #publish-stops": not stops,
+          **({"#publish-stops": STOPPED % stops} if stops else {})})
+        for place, stops, verdict in (
+            (3, "1 rule is broken", "Breaks rules: 1 violation"),
+            (4, "4 exams are not placed", "Breaks no rule; 4 exams not placed"),
+            (2, "", "Breaks no rule"))))
+    page.steps(
+        ("what stops it, and the way there", [f"click {OPEN % 3}", "click #publish-stops a"],
+         {"hash": "#conflicts/draft-2"}),
+        ("and back", ["click #menu [data-to=timetable] a", f"click {OPEN % 2}"],
+         {"hidden #publish-stops": True}))
     before = publications(front)
     for leave in ("click #confirm button", "press escape", "press enter"):
         page.steps(("publish asks", ASKS,

@@ -72,7 +72,7 @@ function examRow(exam, names) {
     timeCell(exam, names),
     rowHead(names.exam(number), title && below(title)),
     roomCell(room, names),
-    labelledCell('Seat', seat),
+    labelledCell('Seat', seat ?? (exam.date ? '' : null)),
     element('td', { class: 'state' }, state));
 }
 

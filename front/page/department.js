@@ -9,7 +9,7 @@ import { showProgress } from './messages.js';
 import { fold } from './names.js';
 import { count, numeral } from './numbers.js';
 import { focusPlaceList, showPlaceList } from './placelist.js';
-import { forbidText, periodsOf, readOptions } from './places.js';
+import { forbidText, periodsOf, readOptions, seatsLeft } from './places.js';
 import { PUBLISHED, readPublished, readSizes } from './published.js';
 import { ruleText } from './refusals.js';
 import { office } from './state.js';
@@ -248,8 +248,10 @@ function look() {
 
 function showOptions(exam, draft, options) {
   const { names } = office;
+  const capacities = (names.labels?.rooms ?? []).map(({ capacity }) => capacity);
   showPlaceList(byId('edit-places'), { label: `Where ${names.exam(exam)} can go`, order: 'points',
-    periods: periodsOf(options, draft.places[exam]), points: draft.penalty.total,
+    periods: periodsOf(options, draft.places[exam], seatsLeft(draft.places, page.sizes, capacities)),
+    points: draft.penalty.total,
     dates: names.labels?.periods ?? [], period: (period) => names.period(period),
     room: (room) => names.room(room), roomInFull: roomText,
     why: (one) => forbidText(one, exam, (other) => names.exam(other)), show: () => {},

@@ -1,6 +1,7 @@
 // What is wrong with a timetable, with names of whom it concerns. Which rules it breaks is read; only what
 // no rule forbids is found here.
 import { areAtOnce } from './conflicts.js';
+import { count } from './numbers.js';
 
 /**
  * @typedef {{ kind: string, exams: number[], student?: number, period?: number, room?: number,
@@ -128,6 +129,24 @@ export function findingsIn({ breaches, unplaced }, places, session, say, seatles
       period: places.get(exam)?.period, text: say(rule, exam, other) })),
     ...crowdedDays(places, session),
   ];
+}
+
+/**
+ * What stops a draft from being published, in words.
+ * @param {import('./drafts.js').Judged} draft
+ * @param {Places} places
+ * @param {import('./state.js').Session} session
+ */
+export function obstaclesOf({ breaches, unplaced }, places, session) {
+  const clashing = new Set(clashesOf(breaches, places, session).map(({ student }) => student)).size;
+  const small = smallRooms(breaches, places, session).length;
+  const others = breaches.filter(({ rule }) => rule !== 'Clash' && rule !== 'Capacity').length;
+  const other = clashing || small ? 'other ' : '';
+  return [clashing && count(clashing, 'candidate has two exams at one time',
+    'candidates have two exams at one time'),
+  small && count(small, 'room is too small', 'rooms are too small'),
+  others && count(others, `${other}rule is broken`, `${other}rules are broken`),
+  unplaced.length && count(unplaced.length, 'exam is not placed', 'exams are not placed')].filter(Boolean);
 }
 
 /** How many findings of each kind there are. */

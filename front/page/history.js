@@ -326,6 +326,9 @@ export async function fillInverse(batches) {
   byId('batch-changes').checked = true;
   byId('batch-lines').value = inverseText(changes.filter(({ acted }) => acted), office.names);
   byId('batch').dispatchEvent(new Event('input', { bubbles: true }));
+  byId('batch-takes-back').hidden = false;
+  byId('batch-takes-back').textContent = `These lines take back ${batches.length > 1 ? 'batches' : 'batch'} ${
+    batches.join(', ')}. Press Check.`;
 }
 
 function reverse({ number }) {
@@ -342,6 +345,9 @@ let again = async () => {};
 /** Sets up the section; `load` reads everything again. */
 export function setUpHistory(load) {
   again = load;
+  for (const name of ['input', 'reset']) {
+    byId('batch').addEventListener(name, () => { byId('batch-takes-back').hidden = true; });
+  }
   byId('history-find').addEventListener('submit', (event) => {
     event.preventDefault();
     showProgress('Searching …', search, byId('history-find'));

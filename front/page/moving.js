@@ -8,7 +8,9 @@ import { showProgress } from './messages.js';
 import { count, numeral } from './numbers.js';
 import { focusPlace, markPlaces, markTarget } from './picture.js';
 import { focusPlaceList, showPlaceList } from './placelist.js';
-import { differenceMark, forbidText, periodsOf, pointsText, readOptions, sharedByPeriod } from './places.js';
+import {
+  differenceMark, forbidText, periodsOf, pointsText, readOptions, seatsLeft, sharedByPeriod,
+} from './places.js';
 import { keepDraft } from './reading.js';
 import { addressOf } from './sections.js';
 import { office, openTimetable } from './state.js';
@@ -85,10 +87,12 @@ export function startMoving(exam) {
 
 function show(exam, draft, options) {
   const places = placesIn(draft);
+  const { candidates, capacities } = office.session ?? { candidates: [], capacities: [] };
+  const sizes = candidates.map(({ length }) => length);
   const move = { exam, draft, options: new Map(options.map((one) => [keyOf(one.period, one.room), one])),
-    periods: periodsOf(options, draft.places[exam]), shown: '', isSure: false, isSwap: false,
-    rooms: page.rooms(),
-    shared: sharedByPeriod(exam, places, office.session?.candidates ?? []), clear: () => {} };
+    periods: periodsOf(options, draft.places[exam], seatsLeft(draft.places, sizes, capacities)), shown: '',
+    isSure: false, isSwap: false, rooms: page.rooms(),
+    shared: sharedByPeriod(exam, places, candidates), clear: () => {} };
   const now = draft.penalty.total;
   const heads = move.periods.map(({ best, fault }) => (best
     ? { mark: differenceMark(best.points, now), text: pointsText(best.points, now) }

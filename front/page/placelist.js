@@ -35,10 +35,7 @@ function roomItem(option, list) {
     below(isFree ? pointsText(option.points, list.points) : list.why(option))));
 }
 
-/** The rooms of a period, the free ones first, the fewest points at the top. */
-const roomItems = ({ rooms }, list) => [...rooms]
-  .sort((one, other) => (one.points ?? Infinity) - (other.points ?? Infinity) || 0)
-  .map((option) => roomItem(option, list));
+const roomItems = ({ rooms }, list) => rooms.map((option) => roomItem(option, list));
 
 /** The button that shows the rooms of a period. */
 function roomsButton(period, list) {

@@ -8,8 +8,8 @@ import { count, numeral } from './numbers.js';
  * exams that it names.
  * @typedef {{ period: number, room: number, points: number | null, rule: string, exams: number[] }} Option
  *
- * A period for an exam: its places, if they differ, the best free one, how many are free, and what forbids
- * it if none is.
+ * A period for an exam: its places in their order, if they differ, the first free one, how many are free, and
+ * what forbids it if none is.
  * @typedef {{ period: number, rooms: Option[], best: Option | null, free: number, isHere: boolean,
  *   fault: Option | null }} Period
  */
@@ -34,23 +34,43 @@ export const readOptions = async (draft, exam) => (
 const OF_ROOMS = ['Capacity', 'RoomExclusive'];
 
 /**
- * The places by period. Where the exam is now doesn't count as free.
+ * How many seats a draft leaves in a room and period. Exams whose size isn't known take none.
+ * @param {{ exam: number, period: number | null, room: number | null }[]} places
+ * @param {number[]} sizes
+ * @param {number[]} capacities
+ * @returns {(place: Option) => number}
+ */
+export function seatsLeft(places, sizes, capacities) {
+  const taken = new Map();
+  for (const { exam, period, room } of places) {
+    const key = `${period} ${room}`;
+    taken.set(key, (taken.get(key) ?? 0) + (sizes[exam] ?? 0));
+  }
+  return ({ period, room }) => (capacities[room] ?? 0) - (taken.get(`${period} ${room}`) ?? 0);
+}
+
+/**
+ * The places by period, the free ones first: the fewest points, then the fewest seats left, then the rooms'
+ * order. Where the exam is now doesn't count as free.
  * @param {Option[]} options
  * @param {{ period: number | null, room: number | null }} here
+ * @param {(place: Option) => number} left
  * @returns {Period[]}
  */
-export function periodsOf(options, here) {
+export function periodsOf(options, here, left) {
   const rooms = /** @type {Option[][]} */ ([]);
   for (const option of options) (rooms[option.period] ??= []).push(option);
   return rooms.map((all, period) => {
     const others = all.filter(({ room }) => period !== here.period || room !== here.room);
-    const free = others.filter(({ points }) => points !== null);
-    const best = free.reduce((one, other) => (
-      !one || (other.points ?? 0) < (one.points ?? 0) ? other : one), /** @type {Option | null} */ (null));
+    const inOrder = (those) => [...those].sort((one, other) => (
+      (one.points ?? Infinity) - (other.points ?? Infinity) || left(one) - left(other)
+      || one.room - other.room));
+    const free = inOrder(others.filter(({ points }) => points !== null));
+    const best = free[0] ?? null;
     const fault = best ? null : others.find(({ rule }) => !OF_ROOMS.includes(rule)) ?? others[0] ?? null;
     const depends = all.length > 1 && (best !== null || OF_ROOMS.includes(fault?.rule ?? ''));
     return { period, isHere: period === here.period, best, free: free.length, fault,
-      rooms: depends ? all : [] };
+      rooms: depends ? inOrder(all) : [] };
   });
 }
 

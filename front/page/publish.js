@@ -3,9 +3,12 @@ import { ask, change, Refusal } from './asking.js';
 import { confirmFirst } from './confirm.js';
 import { changesBetween, verdict } from './drafts.js';
 import { byId, element } from './elements.js';
+import { obstaclesOf } from './findings.js';
+import { placesIn } from './layout.js';
 import { showProgress } from './messages.js';
 import { count } from './numbers.js';
 import { offerChanges, readSeats } from './seats.js';
+import { addressOf } from './sections.js';
 import { office, openTimetable } from './state.js';
 
 const FIRST = 'All candidates get seats, and see the timetable at once.';
@@ -14,6 +17,20 @@ const REPLACES = 'It replaces the published timetable, and all candidates see it
 
 /** Whether the office would publish a draft. */
 export const isPublishable = ({ breaches, unplaced }) => !breaches.length && !unplaced.length;
+
+/** Shows whether the open draft can be published, or what stops it, with a way there. */
+export function showPublishing(timetable) {
+  const { number, name } = timetable;
+  const isStopped = Boolean(number) && !isPublishable(timetable);
+  byId('publish').hidden = !number;
+  byId('drop').hidden = !number;
+  byId('publish').disabled = isStopped;
+  byId('publish-stops').hidden = !isStopped;
+  if (!isStopped || !office.session) return;
+  const obstacles = obstaclesOf(timetable, placesIn(timetable), office.session);
+  byId('publish-stops').replaceChildren(`This draft can't be published: ${obstacles.join(', ')}. `,
+    element('a', { href: addressOf('conflicts', name) }, 'Show the conflicts'));
+}
 
 /**
  * Sets up the buttons; `reread` reads one draft again, and `load` everything.

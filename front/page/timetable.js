@@ -11,7 +11,7 @@ import {
 import { count, numeral } from './numbers.js';
 import { showOverview } from './overview.js';
 import { focusPlace, pictureOf } from './picture.js';
-import { isPublishable } from './publish.js';
+import { showPublishing } from './publish.js';
 import { rereadDraft } from './reading.js';
 import { addressOf } from './sections.js';
 import { usesOf } from './session.js';
@@ -38,13 +38,11 @@ const compared = () => office.timetables.find(({ name }) => name === byId('compa
 
 /** Shows a timetable, which is open from then on. */
 export function showTimetable(timetable) {
-  const { name, number } = timetable;
+  const { name } = timetable;
   office.open = name;
   showOverview();
   byId('timetable-title').textContent = name;
-  byId('publish').hidden = !number;
-  byId('drop').hidden = !number;
-  byId('publish').disabled = !isPublishable(timetable);
+  showPublishing(timetable);
   showDownloads(timetable, office);
   showComparison(timetable, office, showPictures);
   showFinder(timetable, office);
@@ -97,8 +95,10 @@ function actsOf(timetable) {
     choose: (period, room) => isMoving() && putInto(period, room),
     pick: (period, room) => {
       const use = usesByPlace(usesIn(timetable)).get(`${period} ${room}`);
-      if (timetable === openDraft() && use?.exams.length === 1) startMoving(use.exams[0]);
+      const isOpen = timetable === openDraft();
+      if (isOpen && use?.exams.length === 1) startMoving(use.exams[0]);
       else if (!isMoving()) showCell(timetable, { period, room }, true);
+      if (isOpen && !isMoving() && use && use.exams.length > 1) askWhich(use.exams.length);
     },
   };
 }
@@ -121,6 +121,14 @@ function examItem(exam, timetable, chosen) {
       `${count(session?.candidates[exam].length ?? 0, 'candidate')}, ${session?.minutes[exam]} minutes`),
     conflicts > 0 && element('a', { href: addressOf('conflicts', timetable.name, exam) },
       count(conflicts, 'conflict')), moveButton(exam, timetable, 'Move'));
+}
+
+/** Asks which of the exams of the cell that is shown is to be moved. */
+function askWhich(exams) {
+  byId('cell-title').after(element('p', { id: 'cell-question' }, `Which of the ${exams} exams moves?`));
+  const [first] = byId('cell-body').querySelectorAll('.exams-there .move');
+  first?.setAttribute('aria-describedby', 'cell-question');
+  first?.focus();
 }
 
 const MOST_WAITING = 5;
