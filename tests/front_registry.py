@@ -502,6 +502,7 @@ def new_session_on_the_page(run, page, folder):
     def chosen(*names):
         return ("type", "#csv-files", "\n".join(f"{csv / name}.csv" for name in names))
 
+    page.judge_file("exams.csv", "#csv-empty button", csv_file("code,title,minutes,department"))
     page.steps(
         ("three files", [chosen("exams", "rooms", "rules"), "click #csv-session button"], {
             "said": "These files are missing: periods.csv, enrolments.csv."}),

@@ -1,4 +1,5 @@
-// The columns of late changes and the words of actions; what else they may be called.
+// The columns of late changes and words of actions, with their other names; the columns
+// of a session's files.
 // Made by ./pages from tools/registry: don't edit it.
 export const COLUMNS = {
   student: ['student id', 'student number', 'student no', 'id', 'candidate', 'candidate id',
@@ -13,4 +14,11 @@ export const ACTIONS = {
   drop: ['drop', 'dropped', 'withdraw', 'withdrawn', 'withdrew', 'remove', 'removed', 'delete', 'out',
     'unenrol', 'unenroll', '-'],
   new: ['new'],
+};
+export const FILES = {
+  exams: ['code', 'title', 'minutes', 'department'],
+  rooms: ['name', 'building', 'capacity', 'penalty'],
+  periods: ['date', 'start', 'minutes', 'penalty'],
+  enrolments: ['student', 'exam', 'name'],
+  rules: ['rule', 'a', 'b', 'c'],
 };

@@ -1,7 +1,9 @@
 // A session from five CSV files: the registry's service checks them as the tools do and says what is in
 // them; then they are loaded, and each exam is given to its department. A further export brings names.
+import { FILES } from './columns.js';
 import { confirmFirst } from './confirm.js';
-import { byId, element, faultList } from './elements.js';
+import { csvText } from './csv.js';
+import { byId, download, element, faultList } from './elements.js';
 import { atField, FormFault, showProgress } from './messages.js';
 import { count } from './numbers.js';
 import { setOwnersOfNames } from './owners.js';
@@ -9,8 +11,8 @@ import { packed, workedOn } from './service.js';
 import { office } from './state.js';
 
 const PATH = '/-/registry/session';
-const FILES = ['exams', 'rooms', 'periods', 'enrolments', 'rules'];
 const MOST_BYTES = 4_000_000;
+const KINDS = Object.keys(FILES);
 
 // What the form says while there is no session, and of a further export of one.
 const NEW = {
@@ -41,12 +43,12 @@ const wording = () => (office.session ? FURTHER : NEW);
  * @param {F[]} files
  */
 export function filesByKind(files) {
-  const kindOf = ({ name }) => FILES.find((kind) => name.toLowerCase().startsWith(kind));
-  const ofKind = FILES.map((kind) => files.filter((file) => kindOf(file) === kind));
+  const kindOf = ({ name }) => KINDS.find((kind) => name.toLowerCase().startsWith(kind));
+  const ofKind = KINDS.map((kind) => files.filter((file) => kindOf(file) === kind));
   return {
-    found: Object.fromEntries(FILES.map((kind, place) => [kind, ofKind[place][0]])),
-    missing: FILES.filter((_, place) => !ofKind[place].length),
-    twice: FILES.filter((_, place) => ofKind[place].length > 1),
+    found: Object.fromEntries(KINDS.map((kind, place) => [kind, ofKind[place][0]])),
+    missing: KINDS.filter((_, place) => !ofKind[place].length),
+    twice: KINDS.filter((_, place) => ofKind[place].length > 1),
     others: files.filter((file) => !kindOf(file)).map(({ name }) => name),
   };
 }
@@ -63,7 +65,7 @@ export function faultOfChoice({ missing, twice, others }) {
 async function bodyOf(found, checked = null) {
   const body = new FormData();
   let bytes = 0;
-  for (const kind of FILES) {
+  for (const kind of KINDS) {
     const blob = await packed(found[kind]);
     bytes += blob.size;
     body.append(kind, blob, `${kind}.csv.gz`);
@@ -121,8 +123,16 @@ export function showSetUp() {
   byId('csv-load').textContent = wording().act;
 }
 
+/** A button for each kind of file, which gives one that has its columns and no line. */
+const emptyFiles = () => KINDS.map((kind) => {
+  const made = element('button', { type: 'button' }, `${kind}.csv`);
+  made.addEventListener('click', () => download(`${kind}.csv`, 'text/csv', csvText([FILES[kind]])));
+  return made;
+});
+
 /** Sets up the form; `load` reads everything again. */
 export function setUpSetUp(load) {
+  byId('csv-empty').append(...emptyFiles());
   byId('csv-session').addEventListener('submit', (event) => {
     event.preventDefault();
     hidePreview();
