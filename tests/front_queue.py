@@ -31,8 +31,7 @@ CROWD = min(1_000, resource.getrlimit(resource.RLIMIT_NOFILE)[1] // 3)
 class Queue:
     """HAProxy with the front's queue, before an office on that port."""
 
-    # With a master process, as systemd runs it, it can be reloaded.
-    words = ["-db"]
+    words, wait = ["-db"], OFFICE_WAIT
 
     def __init__(self, folder, port):
         self.folder = pathlib.Path(folder)
@@ -41,7 +40,7 @@ class Queue:
         with (self.folder / "offices.cfg").open("wb") as made:
             subprocess.run([TOP / "front" / "offices", self.folder], stdout=made, check=True)
         self.address = f"unix:{self.folder}/term.sock:"
-        self.environment = {"OFFICE_WAIT": OFFICE_WAIT, **os.environ, "QUEUE": str(self.folder)}
+        self.environment = {"OFFICE_WAIT": self.wait, **os.environ, "QUEUE": str(self.folder)}
         self.start()
 
     def start(self, *more):
@@ -71,9 +70,10 @@ class Queue:
 
 
 class ReloadedQueue(Queue):
-    """A queue that reads its files again, the limits too."""
+    """A queue that reads its files again, the limits too: it has a master process, as under
+    systemd."""
 
-    words = ["-db", "-W"]
+    words, wait = ["-db", "-W"], "60"
 
     def start(self, *more):
         self.limits = self.folder / "limits.cfg"
@@ -89,13 +89,11 @@ class ReloadedQueue(Queue):
         return set(children.read_text().split())
 
     def reload(self):
-        """Reads the files again, and waits as an upgrade does: the worker of before tries no office
-        again, and the next one waits for an office only as long as it has seen it answer."""
+        """Reads the files again; another worker answers when this returns, and the one of before
+        may still have requests that wait."""
         before = self.workers()
         self.process.send_signal(signal.SIGUSR2)
-        browser.until("the old worker is gone", lambda: self.workers() and not (
-            before & self.workers()))
-        time.sleep(4)
+        browser.until("another worker is there", lambda: self.workers() - before)
 
     def stop(self):
         self.process.terminate()
@@ -103,12 +101,13 @@ class ReloadedQueue(Queue):
 
 
 class RestartingOffice:
-    """An office that is started again on its port a moment after it has ended, as systemd does."""
+    """An office that is started again on its port a moment after it has ended, as systemd does. The
+    moment may be as long as a large office needs to open its file."""
 
-    def __init__(self, program, database, port, connections=1_000_000):
+    def __init__(self, program, database, port, connections=1_000_000, moment=0.3):
         self.words = [program, "serve", "--db", str(database), "--port", str(port),
                       "--connections", str(connections)]
-        self.is_over, self.starts = threading.Event(), 0
+        self.is_over, self.starts, self.moment = threading.Event(), 0, moment
         self.process = None
         self.thread = threading.Thread(target=self.runs)
         self.thread.start()
@@ -122,7 +121,7 @@ class RestartingOffice:
                 self.starts += 1
             self.process.wait()
             self.process.stdout.close()
-            time.sleep(0.3)
+            self.is_over.wait(self.moment)
 
     def stop(self):
         self.is_over.set()
@@ -276,18 +275,23 @@ def restarts(run, make_front):
 
 def upgrades(run, make_front):
     """The front and the queue are reloaded and the office is started again, as an upgrade does it,
-    and no question is refused; the limits are read again too."""
+    and no question is refused, however long the office needs; the limits are read again too."""
     apart = Run.apart(run.program, run.folder, "front", "upgraded")
     port = browser.free_port()
-    office = RestartingOffice(run.program, apart.database(SMALL), port)
+    office = RestartingOffice(run.program, apart.database(SMALL), port, moment=4)
     queue = ReloadedQueue(apart.folder / "queue", port)
     front = make_front(apart.folder, queue.address)
     try:
-        clients = Clients(front, ask("registry", "GET", "/instance"), 12, 20)
-        for _ in range(3):
+        clients = Clients(front, ask("registry", "GET", "/instance"), 12, 600)
+        for starts in (1, 2, 3):
+            browser.until("the office answers", lambda starts=starts: office.starts == starts)
             queue.reload()
             office.process.terminate()
             front.reload()
+            # Again, while the office is away.
+            queue.reload()
+        browser.until("the office answers", lambda: office.starts == 4)
+        clients.end = time.monotonic() + 1
         statuses = clients.result()
         run.judge("questions beside upgrades", ({200}, True), (set(statuses), statuses[200] > 20))
         office.stop()

@@ -99,7 +99,8 @@ class Front:
         if self.process.poll() is not None:
             raise OSError((self.folder / "run" / "errors").read_text())
         with contextlib.suppress(OSError), self.connect():
-            return True
+            # Before it has workers, a signal would end it.
+            return bool(self.workers())
         return False
 
     def connect(self):
@@ -142,11 +143,16 @@ class Front:
     def reload(self):
         """Reads the files again; what it has read answers when this returns."""
         self.spell()
+        # Read before the signal: soon after it the new workers are there too.
+        before = self.workers()
         self.process.send_signal(signal.SIGHUP)
-        old = pathlib.Path(f"/proc/{self.process.pid}/task/{self.process.pid}/children")
-        workers = set(old.read_text().split())
         browser.until("the old workers take no more connections", lambda: all(
-            is_leaving(worker) for worker in workers & set(old.read_text().split())))
+            is_leaving(worker) for worker in before & self.workers()))
+
+    def workers(self):
+        """The numbers of nginx's workers."""
+        children = pathlib.Path(f"/proc/{self.process.pid}/task/{self.process.pid}/children")
+        return set(children.read_text().split())
 
     def stop(self):
         self.process.terminate()
