@@ -1009,7 +1009,7 @@ def in_browser(run, chromium, make_front):
         two_registrars(run, Page(run, chromium), office)
         owners_on_the_page(run, Page(run, chromium), stack)
         run.judge("what the page sent, in the ledger", [
-            (20, "page", "registry", 2), (21, "file", "registry", 1)], stack.service.rows(
+            (20, "page", "registry", 2), (21, "list", "registry", 1)], stack.service.rows(
             "SELECT number, source, prepared_by, added FROM batches JOIN effects ON batch = number"
             " WHERE number < 40 ORDER BY number"))
         run.judge("complaints about the page with a service", [], chromium.complaints())

@@ -246,12 +246,12 @@ def first_version(program, run):
                                    text=True, timeout=SECONDS, env=ENVIRONMENT)
             run.judge(f"{name}: its status", (0, ""), (ended.returncode, ended.stderr))
             ledger = Ledger.opened_at(path)
-            run.judge(f"{name}: the version", ("2",), ledger.db.execute(
+            run.judge(f"{name}: the version", ("3",), ledger.db.execute(
                 "SELECT value FROM about WHERE key = 'version'").fetchone())
             run.judge(f"{name}: students", students, ledger.db.execute(
                 "SELECT number, id, name FROM students").fetchall())
             run.judge(f"{name}: the order of batches", [
-                ("file", 1), ("page", 2), ("hand", 3)], ledger.db.execute(
+                ("list", 1), ("page", 2), ("hand", 3)], ledger.db.execute(
                 "SELECT source, turn FROM batches ORDER BY turn").fetchall())
             run.judge(f"{name}: the digest", True, digest == ledger.digest() or name == "users")
             run.judge(f"{name}: the office's enrolments", {
@@ -264,8 +264,9 @@ def next_version(program, run):
     with tempfile.TemporaryDirectory() as folder:
         path = pathlib.Path(folder) / "ledger.db"
         shutil.copy(FIRST, path)
-        versions.STEPS[2] = ("ALTER TABLE rooms ADD COLUMN floor TEXT",)
-        versions.VERSION = 3
+        later = versions.VERSION + 1
+        versions.STEPS[later - 1] = ("ALTER TABLE rooms ADD COLUMN floor TEXT",)
+        versions.VERSION = later
         try:
             ledger = Ledger.opened_at(path)
             run.judge("a new column", ["number", "name", "building", "capacity", "penalty",
@@ -273,10 +274,10 @@ def next_version(program, run):
                                            "PRAGMA table_info(rooms)")])
             ledger.close()
         finally:
-            del versions.STEPS[2]
-            versions.VERSION = 2
-        words = (f"{path} is a ledger of version 3, and these tools know versions up to 2: use the "
-                 "tools that wrote it, or later ones")
+            del versions.STEPS[later - 1]
+            versions.VERSION = later - 1
+        words = (f"{path} is a ledger of version {later}, and these tools know versions up to "
+                 f"{later - 1}: use the tools that wrote it, or later ones")
         for name, opened in (("to write", Ledger.opened_at), ("to read", Ledger.read_at)):
             try:
                 opened(path)
@@ -316,7 +317,7 @@ def killed_amid_versions(program, run):
                 Ledger.opened_at(path).close()
                 if ended.returncode == 0:
                     break
-        run.judge("one version or the other", {("1", 6), ("2", 8)}, seen)
+        run.judge("one version or the other", {("1", 6), ("2", 8), ("3", 8)}, seen)
 
 
 def counted(_):

@@ -111,6 +111,12 @@ class Term:
         with contextlib.closing(sqlite3.connect(self.made / "ledger.db")) as ledger:
             return dict(ledger.execute("SELECT id, name FROM students"))
 
+    def sources(self):
+        """Where the batches are from that were sent after the first one, and by whom."""
+        with contextlib.closing(sqlite3.connect(self.made / "ledger.db")) as ledger:
+            return ledger.execute("SELECT source, prepared_by FROM batches WHERE turn > 1"
+                                  " ORDER BY turn").fetchall()
+
 
 class Service:
     """The registry's service, for sessions whose office is at a port, without a front."""
@@ -334,6 +340,9 @@ def two_at_once(run, term, service, port):
         run.judge("the next list takes it back", (0, ["s1 PHYS102"]), (
             lambda ended: (ended[0], sorted({*copy.pairs()} & {"s1 PHYS102"})))(
                 copy.tool(ENROLMENTS.encode(), LIST)))
+        run.judge("a whole list is a list, whoever sends it", [
+            ("page", "ben"), ("page", "ada"), ("list", "ada"), ("list", "nightly")],
+            copy.sources())
 
 
 END = ("the last line of the list has no end, and that of the last list had one; if that is meant, "

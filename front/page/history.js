@@ -33,7 +33,7 @@ const DIGITS_SHOWN = 12;
 
 // ---- Words
 
-const SOURCES = { file: 'the student system\'s list', hand: 'lines of a file', page: 'this page' };
+const SOURCES = { list: 'the student system\'s list', hand: 'lines of a file', page: 'this page' };
 
 /** The points of a batch that changed, in words. */
 function pointsText(points) {

@@ -13,7 +13,7 @@ MOST_BATCH, MOST_NUMBER = 1_048_576, 999_999_999
 # Where changes come from: a whole list, whoever sends it; a registrar's lines, by the tool or on
 # the registry's page; or another way than by these. What marks numbers that were given changes
 # nothing.
-FILE, HAND, PAGE, OTHER, MARK = "file", "hand", "page", "other", "mark"
+LIST, HAND, PAGE, OTHER, MARK = "list", "hand", "page", "other", "mark"
 Pair = tuple[int, int]
 
 
@@ -59,7 +59,7 @@ def base_pairs(ledger: Ledger) -> set[Pair]:
     pairs = ledger.loaded_pairs()
     for student, exam, action in ledger.db.execute(
             "SELECT student, exam, action FROM changes JOIN batches ON batch = number"
-            " WHERE source = ? AND turn IS NOT NULL ORDER BY turn, place", (FILE,)):
+            " WHERE source = ? AND turn IS NOT NULL ORDER BY turn, place", (LIST,)):
         (pairs.add if action == "add" else pairs.discard)((student, exam))
     return pairs
 
@@ -69,7 +69,7 @@ def changes_here(ledger: Ledger) -> dict[Pair, Made]:
     return {(student, exam): Made(*made) for student, exam, *made in ledger.db.execute(
         "SELECT student, exam, action, sent_at, prepared_by, logged FROM changes"
         " JOIN batches ON batch = number WHERE source NOT IN (?, ?) AND turn IS NOT NULL"
-        " ORDER BY turn, place", (FILE, MARK))}
+        " ORDER BY turn, place", (LIST, MARK))}
 
 
 def differences(expected: set[Pair], found: set[Pair]) -> list[Change]:

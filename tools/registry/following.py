@@ -4,7 +4,7 @@ from __future__ import annotations
 import dataclasses
 from collections.abc import Iterable, Mapping
 
-from .changes import FILE, PAGE, Change, add_batch, base_pairs, changes_here, mark_sent
+from .changes import LIST, PAGE, Change, add_batch, base_pairs, changes_here, mark_sent
 from .csv_tables import Faults
 from .ledger import MOST_STUDENT, Ledger
 from .session import Exam, Period, Room, Session, count
@@ -137,10 +137,10 @@ def keep_changes_here(old: Ledger, new: Ledger, pairs: set[Pair]) -> None:
         if pair in differing and (pair in pairs) == (made.action == "add"):
             other = "drop" if made.action == "add" else "add"
             for number, source, by, action in (
-                    (-2 * place - 1, FILE, "the lists", other),
+                    (-2 * place - 1, LIST, "the lists", other),
                     (-2 * place - 2, PAGE, made.by, made.action)):
                 add_batch(new, number, b"", source, by, [Change(*pair, action)])
-                mark_sent(new, number, "" if source == FILE else made.at)
+                mark_sent(new, number, "" if source == LIST else made.at)
 
 
 def students_after(ledger: Ledger, found: Session, ids: Iterable[str]

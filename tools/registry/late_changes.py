@@ -7,11 +7,11 @@ import json
 from collections.abc import Callable, Collection
 from typing import Any
 
-from .changes import FILE, MARK, PAGE, is_taken, prepare
+from .changes import LIST, MARK, PAGE, is_taken, prepare
 from .consequences import Consequences, consequences_of
 from .csv_tables import Faults
 from .folder import Folder
-from .late_file import LIST, Late, read_late
+from .late_file import Late, read_late
 from .late_plan import Guard, Plan, guards_of, plan_of, report_of
 from .ledger import Ledger, locked
 from .meeting import Meeting, send_noted
@@ -156,7 +156,7 @@ def sent(folder: Folder, ledger: Ledger, office: Office, late: Late, met: Meetin
     numbers = ledger.numbers()
     taking = {change.student for change in plan.changes if change.action == "add"}
     met.mark(ledger, {numbers[student] for student in late.new} - taking, asked.by)
-    prepare(ledger, plan.changes, FILE if late.kind == LIST else PAGE, asked.by, asked.number)
+    prepare(ledger, plan.changes, LIST if late.kind == LIST else PAGE, asked.by, asked.number)
     ledger.keep()
     done = {"added": 0, "dropped": 0, "unchanged": 0}
     batches = []

@@ -7,6 +7,7 @@ import difflib
 import re
 from collections.abc import Iterable, Mapping
 
+from .changes import LIST
 from .csv_tables import (
     MOST_LINES_PRINTED, ROUNDED, Column, Faults, Known, Row, Wanted, table_of, without_zeros,
 )
@@ -15,8 +16,8 @@ from .names import has_word_of, is_same_name, words_of
 from .session import COLUMNS as SESSION
 from .session import Session
 
-# A whole list, or lines of changes.
-LIST, LINES = "list", "changes"
+# What a file is, if it is no whole list: lines of changes.
+LINES = "changes"
 COLUMNS = (*SESSION["enrolments"], Column("action", ("change", "status", "type"), False))
 ACTIONS = {"add": ("add", "added", "enrol", "enrols", "enroll", "enrolled", "in", "+"),
            "drop": ("drop", "dropped", "withdraw", "withdrawn", "withdrew", "remove", "removed",

@@ -7,8 +7,8 @@ import json
 from collections import Counter
 from collections.abc import Iterable
 
-from .changes import Change, Made, Pair, base_pairs, changes_here
-from .late_file import LIST, Late, Said
+from .changes import LIST, Change, Made, Pair, base_pairs, changes_here
+from .late_file import Late, Said
 from .ledger import Ledger
 from .session import count
 

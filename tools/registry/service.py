@@ -29,7 +29,7 @@ from typing import Any
 
 import flask
 
-from .changes import MARK, PAGE, Change, add_batch, forget_unsent
+from .changes import LIST, MARK, PAGE, Change, add_batch, forget_unsent
 from .csv_tables import Faults, Known, Row, first_lines
 from .folder import STOPPED, Folder, exchange
 from .history import History, Unsteady, difference, places_of
@@ -37,7 +37,7 @@ from .history import look as look_what_happened
 from .held import Held
 from .judging import judged
 from .late_changes import Asked, Differs, answered, faults_said
-from .late_file import LINES, LIST
+from .late_file import LINES
 from .ledger import Ledger, NotALedger, locked, now
 from .list_jobs import Busy, Jobs, wanted_in
 from .logged import Log, Logged, settle

@@ -4,7 +4,7 @@ from __future__ import annotations
 import pathlib
 import sqlite3
 
-VERSION = 2
+VERSION = 3
 TABLES = (
     "CREATE TABLE about (key TEXT PRIMARY KEY, value TEXT NOT NULL)",
     "CREATE TABLE departments (number INTEGER PRIMARY KEY, name TEXT NOT NULL UNIQUE)",
@@ -45,6 +45,8 @@ STEPS = {1: (
     "UPDATE batches SET turn = place FROM (SELECT number AS one, row_number() OVER"
     " (ORDER BY sent_at, number) AS place FROM batches WHERE sent_at IS NOT NULL)"
     " WHERE number = one",
+), 2: (
+    "UPDATE batches SET source = 'list' WHERE source = 'file'",
 )}
 
 
