@@ -800,7 +800,7 @@ def faulty_lines(page):
 
 def on_the_page(page):
     """New students of lines and of a whole list; what the page sends is in the ledger."""
-    guard = "1 of 5 students would be new, which is more than a tenth. That is meant."
+    guard = "1 of 5 students would be new, more than 10 %. That is meant."
     page.steps(
         ("new students", pasted(NEW), {
             "#batch-effect": "Changes: adds 2 enrolments, enters 2 new students.",

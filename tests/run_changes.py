@@ -120,8 +120,8 @@ ZOE = "r9,Zoë Zander,MATH101\n"
 CLEOS = "s3,Cleo Carter,MATH101\n"
 OLDER = "warning: the ledger may be older than its office: "
 CLEO_KEPT = kept("MATH101", "Cleo Carter (s3)", "added", WHO)
-MANY = "which is more than a tenth; if that is meant, say --many\n"
-SHORTER = "a twentieth or more; if that is meant, say --many\n"
+MANY = "more than 10 %; if that is meant, say --many\n"
+SHORTER = "5 % or more; if that is meant, say --many\n"
 # A list, further words, and what is said; the lists come one after another.
 LISTS = [
     ("the same enrolments", SMALL, (), (0, counts(0, 0), "")),

@@ -14,6 +14,7 @@ import http.client
 import json
 import os
 import pathlib
+import re
 import shutil
 import signal
 import socket
@@ -30,7 +31,7 @@ from tools_path import TOP
 from registry.csv_tables import Faults
 from registry.late_file import read_late
 from registry.late_plan import guards_of, plan_of
-from registry.ledger import Ledger
+from registry.ledger import Ledger, locked
 from run_serve import Office, Run
 
 GUNICORN = shutil.which("gunicorn")
@@ -303,6 +304,7 @@ def by_service(run, term):
             shutil.rmtree(own, ignore_errors=True)
         two_at_once(run, term, service, port)
         stopped_at_night(run, term, service, port)
+        every_night(run, term, service, port)
         killed_between(run, term, service, port)
     finally:
         service.killed()
@@ -356,7 +358,7 @@ def stopped_at_night(run, term, service, port):
     short = ENROLMENTS.replace("s1,Ada Archer,PHYS102\n", "").encode()
     with term.copied(own, port) as copy:
         status, _, faults = copy.tool(short, LIST, ())
-        guard = ("the list is shorter than the last one by 1 of 10 enrolments, a twentieth or "
+        guard = ("the list is shorter than the last one by 1 of 10 enrolments, 5 % or "
                  "more; if that is meant, say --many")
         run.judge("a list that is too short", (1, [guard]), (status, faults))
         run.judge("nothing is sent", True, "s1 PHYS102" in copy.pairs())
@@ -383,6 +385,149 @@ def stopped_at_night(run, term, service, port):
         run.judge("the next one is as that", 0, copy.tool(short[:-1], LIST, ())[0])
 
 
+class Nightly:
+    """What the package's unit runs, for a session in a folder of sessions."""
+
+    def __init__(self, term, ledgers, lists):
+        self.term, self.ledgers, self.lists = term, ledgers, lists
+        unit = (TOP / "packaging" / "examoffice-nightly@.service").read_text()
+        tool, *words = re.search(r"^ExecStart=(.*)$", unit, re.M)[1].split()
+        self.words = [TOP / tool.removeprefix("/usr/share/examoffice/"), *(
+            {"/var/lib/examoffice-nightly/%i": lists, "%i": "every"}.get(word, word)
+            for word in words), "--office", f"http://127.0.0.1:{term.office.port}"]
+
+    def begun(self):
+        return subprocess.Popen(
+            self.words, stdout=subprocess.PIPE, stderr=subprocess.PIPE, text=True,
+            env={**os.environ, "EXAMOFFICE_LEDGERS": str(self.ledgers)})
+
+    def ended(self, process=None):
+        """Its status, and the last line that it prints."""
+        process = process or self.begun()
+        said, faults = process.communicate(timeout=SECONDS)
+        return process.returncode, (said + faults).splitlines()[-1]
+
+    def comes(self, name, text):
+        (self.lists / name).write_text(text)
+
+    def files(self):
+        """The names in the folder, without the times in front of those that were moved."""
+        return sorted(re.sub(r"\d{8}T\d{6}-", "", f"{path.relative_to(self.lists)}")
+                      for path in self.lists.rglob("*") if path.is_file())
+
+    def emptied(self):
+        for path in self.lists.rglob("*"):
+            if path.is_file():
+                path.unlink()
+
+
+def every_night(run, term, service, port):
+    """The unit's command takes one whole list, once, and moves it away with its report."""
+    own, lists = service.folder / "every", run.folder / "lists"
+    for folder in (own, lists):
+        folder.mkdir()
+    longer = f"{ENROLMENTS}s1,Ada Archer,PHYS101\n"
+    short = ENROLMENTS.replace("s1,Ada Archer,PHYS102\n", "")
+    guard = ("the list is shorter than the last one by 1 of 10 enrolments, 5 % or more; if that "
+             "is meant, say --many")
+    with term.copied(own, port) as copy:
+        nightly = Nightly(copy, service.folder, lists)
+        none = (0, f"there is no list in {lists}")
+        run.judge("no list", none, nightly.ended())
+        nightly.comes("all.csv.part", ENROLMENTS)
+        nightly.comes(".all.csv", ENROLMENTS)
+        run.judge("one that isn't whole", (none, [".all.csv", "all.csv.part"]), (
+            nightly.ended(), nightly.files()))
+        nightly.emptied()
+        copy.tool(b"student,exam,action\ns1,PHYS102,drop\n", CHANGES)
+        nightly.comes("all.csv", longer)
+        status, line = nightly.ended()
+        run.judge("a list", (0, "1 added, 0 dropped, 0 unchanged", ["done/all.csv",
+                  "done/all.csv.report"]), (status, line.partition(": ")[2], nightly.files()))
+        report = next(lists.glob("done/*.report")).read_text().splitlines()
+        run.judge("its report", ["1 to add, 0 to drop, 0 new students, 3 kept", line], [
+            report[0], report[-1]])
+        run.judge("what the office has", (True, False), tuple(
+            pair in copy.pairs() for pair in ("s1 PHYS101", "s1 PHYS102")))
+        run.judge("it is taken once", none, nightly.ended())
+        nightly.emptied()
+        nightly.comes("all.csv", longer)
+        run.judge("a run that was cut off before it moved the list", (0, [
+            "done/all.csv", "done/all.csv.report"]), (nightly.ended()[0], nightly.files()))
+        nightly.emptied()
+        nightly.comes("short.csv", short)
+        run.judge("a list that is cut off", (1, [
+            "refused/short.csv", "refused/short.csv.report"]), (
+                nightly.ended()[0], nightly.files()))
+        run.judge("why, beside it", True, guard.partition(" by ")[0] in next(
+            lists.glob("refused/*.report")).read_text())
+        service.ask("every", CHANGES, b"student,exam,action\ns1,MATH101,add\n")
+        run.judge("why, for the page and for the status", "short.csv wasn't sent by nightly:", (
+            own / "standing").read_text().splitlines()[0][18:])
+        nightly.emptied()
+        nightly.comes("one.csv", longer)
+        nightly.comes("two.csv", longer)
+        os.utime(lists / "one.csv", (1e9, 1e9))
+        two = "there are 2 lists, and only one is taken: two.csv, one.csv"
+        run.judge("two lists", ((1, two), ["one.csv", "two.csv"]), (
+            nightly.ended(), nightly.files()))
+        run.judge("that two came is said too", two, (own / "stopped").read_text().splitlines()[-1])
+        (lists / "one.csv").unlink()
+        waits(run, nightly, own)
+        nightly.emptied()
+        nightly.comes("all.csv", longer)
+        copy.office.killed()
+        run.judge("an office that doesn't run", (75, ["all.csv"]), (
+            nightly.ended()[0], nightly.files()))
+        copy.office = Office(copy.program, copy.database, port=port)
+        run.judge("it runs again", (0, ["done/all.csv", "done/all.csv.report"]), (
+            nightly.ended()[0], nightly.files()))
+        run.judge("nothing is said any more", False, (own / "stopped").exists())
+
+
+def waits(run, nightly, own):
+    """While somebody else holds the session, as a restore does, nothing is taken."""
+    with locked(own):
+        process = nightly.begun()
+        browser.until("it waits", lambda: process.poll() is not None or re.search(
+            rf"-> FLOCK .* {process.pid} ", pathlib.Path("/proc/locks").read_text()))
+        run.judge("while somebody holds the session", (None, ["two.csv"]), (
+            process.poll(), nightly.files()))
+    run.judge("then it is sent", (0, ["done/two.csv", "done/two.csv.report"]), (
+        nightly.ended(process)[0], nightly.files()))
+
+
+def own_limits(run, term):
+    """A session's own limits decide what is looked at; without them the usual ones do."""
+    own, csv = run.folder / "limits", run.folder / "limits_csv"
+    own.mkdir()
+    shutil.copytree(term.folder / "csv", csv)
+    rules = (csv / "rules.csv").read_text()
+    short = ENROLMENTS.replace("s1,Ada Archer,PHYS102\n", "").encode()
+    with term.copied(own) as copy:
+        for limits, expected in (
+                ("", ["the list is shorter than the last one by 1 of 10 enrolments, 5 % or more; "
+                      "if that is meant, say --many"]),
+                ("limit,shorter,10,1\nlimit,drops,9.9,1\n", []),
+                ("limit,shorter,10\nlimit,drops,9.5\n",
+                 ["the list is shorter than the last one by 1 of 10 enrolments, 10 % or more; if "
+                  "that is meant, say --many",
+                  "1 of 10 enrolments would be dropped, more than 9.5 %; if that is meant, say "
+                  "--many"]),
+                ("Limit,drops,\"9,5 %\"\nlimit,shorter,10.001 %\n",
+                 ["1 of 10 enrolments would be dropped, more than 9.5 %; if that is meant, say "
+                  "--many"]),
+                ("limit,drops,10\nlimit,shorter,11\nlimit,exams,0,1\nlimit,students,0\n", []),
+                ("limit,drops,10\nlimit,shorter,11\nlimit,exams,0\n",
+                 ["1 exam would lose more than 0 % of its candidates: PHYS102 1 of 2; if that is "
+                  "meant, say --many"])):
+            (csv / "rules.csv").write_text(rules + limits)
+            subprocess.run([TOP / "tools" / "session_from_csv", csv, own], check=True,
+                           stdout=subprocess.DEVNULL, timeout=SECONDS)
+            run.judge(f"limits {limits!r}", (1 if expected else 0, expected), (
+                lambda status, _, faults: (status, faults))(*copy.tool(short, LIST, ("--show",))))
+
+
 def killed_between(run, term, service, port):
     """A service that was killed between plan and sending knows nothing of it, and sends it."""
     own = service.folder / "killed"
@@ -406,6 +551,7 @@ def main():
         first.mkdir()
         term = Term.first(run.program, first)
         table(run, term)
+        own_limits(run, term)
         if GUNICORN:
             by_service(run, term)
         else:

@@ -94,6 +94,11 @@ FAULTS = [
      "rules.csv, line 8, b: the field is empty"),
     ("rules", "TWOINADAY,5", "TWOINAROW,5",
      "rules.csv, line 9, rule: 'TWOINAROW' is on line 8 already"),
+    ("rules", "TWOINAROW,7", "limit,exam,30\nlimit,exams,101\nlimit,new,5,x\nlimit,new,5",
+     "rules.csv, line 8, a: there is no limit 'exam', only shorter, drops, new, exams, students\n"
+     "rules.csv, line 9, b: a share from 0 to 100 percent is expected, not '101'\n"
+     f"rules.csv, line 10, c: {WHOLE} 0 to 100000 is expected, not 'x'\n"
+     "rules.csv, line 11, a: 'new' is on line 10 already"),
     ("rules", "department,3,Physics", "department,1000,Physics",
      f"rules.csv, line 6, a: {WHOLE} 1 to 999 is expected, not '1000'"),
     ("rules", "department,3,Physics", "department,1,Mathematics\ndepartment,3,Physics",

@@ -8,10 +8,13 @@ import re
 
 from .logged import Log
 from .office import TOKEN, Office, OfficeBySocket
+from .rights import as_caller
 
 # Where the package keeps a session's ledger, history and names; tools lie there in /usr/share.
 LEDGERS = pathlib.Path("/var/lib/examoffice-registry")
 FRONT = pathlib.Path("/var/lib/examoffice-front")
+# The variable with the service's token, and the file that only root reads.
+OF_SERVICE = "REGISTRY_TOKEN"
 TOKEN_FILE = pathlib.Path("/etc/examoffice/registry.token")
 NAME = re.compile(r"[a-z0-9][a-z0-9_-]*")
 AT_HAND = "http://127.0.0.1:8080"
@@ -48,8 +51,8 @@ def log_of(folder: pathlib.Path, given: pathlib.Path | None) -> Log:
 def office_of(folder: pathlib.Path, address: str | None) -> Office:
     """Returns the office at an address, or that of a session which the package has, by the front's
     socket and the service's token."""
-    name, token = name_of(folder), os.environ.get(TOKEN, "")
-    with contextlib.suppress(OSError):
+    name, token = name_of(folder), os.environ.get(TOKEN) or os.environ.get(OF_SERVICE, "")
+    with contextlib.suppress(OSError), as_caller():
         token = token or TOKEN_FILE.read_text(encoding="utf-8").strip().partition("=")[2]
     if address or not (name and token):
         return Office(address or AT_HAND)

@@ -12,13 +12,6 @@ from .late_file import Late, Said
 from .ledger import Ledger
 from .session import count
 
-# A list is asked about if it drops more than one enrolment in so many, or has so many new students,
-# or is shorter than the last one by one enrolment in so many.
-MOST_CHANGED, MOST_SHORTER = 10, 20
-# So is a plan by which an exam loses more than one candidate in so many and more than this number,
-# or more students than this, or than one in so many in a large session, lose all their exams.
-MOST_LOST, LEAST_LOST = 5, 5
-MOST_LEFT, MOST_LEFT_OF = 10, 500
 MOST_NAMED = 10
 
 
@@ -128,34 +121,37 @@ def guards_of(plan: Plan, ledger: Ledger, found: set[Pair], last_ended: bool = F
                                    "list had one"))
     sizes = Counter(exam for _, exam in found)
     lost = Counter(exam for _, exam in plan.dropped)
-    exams = ledger.session().exams
+    exams, limits = ledger.session().exams, ledger.limits()
     losing = [exam for exam, number in lost.most_common()
-              if MOST_LOST * number > sizes[exam] and number > LEAST_LOST]
+              if limits["exams"].is_passed(number, sizes[exam])]
     if losing:
-        words = (f"{count(len(losing), 'exam')} would lose more than a fifth of "
+        words = (f"{count(len(losing), 'exam')} would lose more than {limits['exams'].share()} of "
                  f"{'its' if len(losing) == 1 else 'their'} candidates")
         guards.append(Guard("exams", words, first_named(
             (f"{exams[exam].code} {lost[exam]:,} of {sizes[exam]:,}" for exam in losing),
             len(losing))))
-    if len(plan.without) > max(MOST_LEFT, students / MOST_LEFT_OF):
-        guards.append(Guard("students", f"{len(plan.without):,} students would have no exam any "
-                            "more", first_named(names_of(ledger, plan.without),
-                                                len(plan.without))))
+    if limits["students"].is_passed(len(plan.without), students):
+        guards.append(Guard("students", f"{count(len(plan.without), 'student')} would have no exam "
+                            "any more", first_named(names_of(ledger, plan.without),
+                                                    len(plan.without))))
     return guards
 
 
 def guards_of_list(plan: Plan, ledger: Ledger, found: set[Pair], students: int
                    ) -> Iterable[Guard]:
     """Returns why a list may be another one, or a part of one."""
-    last, now = len(base_pairs(ledger)), plan.listed
-    if MOST_SHORTER * (last - now) >= last and last > now:
-        yield Guard("shorter", f"the list is shorter than the last one by {last - now:,} of "
-                               f"{count(last, 'enrolment')}, a twentieth or more")
+    last, limits = len(base_pairs(ledger)), ledger.limits()
+    lacking = last - plan.listed
+    if limits["shorter"].is_reached(lacking, last):
+        yield Guard("shorter", f"the list is shorter than the last one by {lacking:,} of "
+                               f"{count(last, 'enrolment')}, "
+                               f"{limits['shorter'].share()} or more")
     for name, number, all_of_them, words in (
             ("drops", len(plan.dropped), len(found), "enrolments would be dropped"),
             ("new", len(plan.late.new), students, "students would be new")):
-        if MOST_CHANGED * number > all_of_them:
-            yield Guard(name, f"{number:,} of {all_of_them:,} {words}, which is more than a tenth")
+        if limits[name].is_passed(number, all_of_them):
+            yield Guard(name, f"{number:,} of {all_of_them:,} {words}, more than "
+                              f"{limits[name].share()}")
 
 
 def names_of(ledger: Ledger, numbers: Iterable[int]) -> Iterable[str]:

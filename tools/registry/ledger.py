@@ -13,7 +13,9 @@ import sqlite3
 import stat
 from collections.abc import Iterable, Iterator, Mapping
 from contextlib import contextmanager
+from decimal import Decimal
 
+from .limits import USUAL, Limit
 from .session import TEXTS, Exam, Period, Room, Session
 from .versions import TABLES, VERSION, bring_to_today, version_of
 from .versions import NotALedger as NotALedger
@@ -145,6 +147,11 @@ class Ledger:
         session.period_rules, session.room_rules, session.weights = lines.values()
         return session
 
+    def limits(self) -> dict[str, Limit]:
+        """The limits of late changes: the session's own, or the usual ones."""
+        return USUAL | {name: Limit(Decimal(percent), number) for name, percent, number
+                        in self.db.execute("SELECT name, percent, number FROM limits")}
+
     def students(self) -> list[Student]:
         return [Student(*row) for row in self.db.execute(
             "SELECT number, id, name FROM students ORDER BY number")]
@@ -198,6 +205,7 @@ class Ledger:
         """Writes a new session, with these numbers of students."""
         db = self.db
         self.set_texts(session.texts)
+        self.set_limits(session.limits)
         self.add_departments(session.departments)
         db.executemany("INSERT INTO exams VALUES (?, ?, ?, ?, ?)", (
             (number, exam.code, exam.title, exam.minutes, exam.department)
@@ -220,6 +228,11 @@ class Ledger:
     def set_texts(self, texts: dict[str, str]) -> None:
         self.db.executemany("INSERT OR REPLACE INTO about VALUES (?, ?)", (
             (name, texts.get(name, "")) for name in TEXTS))
+
+    def set_limits(self, limits: Mapping[str, Limit]) -> None:
+        self.db.execute("DELETE FROM limits")
+        self.db.executemany("INSERT INTO limits VALUES (?, ?, ?)", (
+            (name, f"{one.percent}", one.number) for name, one in limits.items()))
 
     def add_departments(self, departments: dict[str, int]) -> None:
         self.db.executemany("INSERT INTO departments VALUES (?, ?)", (

@@ -21,6 +21,8 @@ MOST_LACKING, MOST_LACKING_PAIRS = 5, 10
 LEAST_COMPARED = 5
 # The variable with a program's token for a front.
 TOKEN = "EXAMOFFICE_TOKEN"
+# The statuses with which an office refuses for good; with others it may be asked again.
+FINAL = (400, 403, 404, 409, 413)
 Pair = tuple[int, int]
 
 

@@ -10,7 +10,7 @@ from .changes import (
     Effect, Pair, acting, changes_of, forget_unsent, mark_sent, note_effect, renumber, unsent,
 )
 from .ledger import Ledger, now
-from .office import Office, Refused
+from .office import FINAL, Office, Refused
 
 # A batch that does nothing: it names an exam that only the largest sessions have.
 HARMLESS, MOST_EXAMS = b"student,exam,action\n0,1999,drop\n", 2_000
@@ -72,7 +72,7 @@ def send_all(ledger: Ledger, office: Office) -> Iterator[tuple[int, str]]:
                     renumber(ledger, other)
                 ledger.keep()
                 continue
-            if refusal.status in (400, 403, 404, 409, 413):
+            if refusal.status in FINAL:
                 forget_unsent(ledger)
                 ledger.keep()
             raise

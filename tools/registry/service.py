@@ -43,7 +43,7 @@ from .list_jobs import Busy, Jobs, wanted_in
 from .logged import Log, Logged, settle
 from .meeting import Meeting, look, meet, send_noted, show
 from .office import TOKEN as TOKEN_NAME
-from .office import Office, OfficeBySocket, Refused
+from .office import FINAL, Office, OfficeBySocket, Refused
 from .owners import owners_in
 from .published import words_of_last
 from .sending import send_one
@@ -134,7 +134,7 @@ def no_ledger(_: NotALedger) -> tuple[dict[str, Any], int]:
 @app.errorhandler(Refused)
 def refused(refusal: Refused) -> flask.Response | tuple[dict[str, Any], int]:
     """What the office refused, in its words."""
-    if refusal.status in (400, 403, 404, 409, 413):
+    if refusal.status in FINAL:
         return flask.Response(refusal.answer, refusal.status, mimetype="application/json")
     return {"error": "unavailable"}, 503
 
@@ -277,7 +277,7 @@ def met_with(found: Folder, ledger: Ledger, office: Office, log: Log) -> Meeting
     try:
         met = meet(found, ledger, office, log)
     except Refused as refusal:
-        if refusal.status not in (400, 403, 404, 409, 413):
+        if refusal.status not in FINAL:
             raise
         met = meet(found, ledger, office, log)
     return unless_strange(found, met)
@@ -301,7 +301,7 @@ def sent(ledger: Ledger, office: Office, number: int, body: bytes) -> str:
     try:
         return send_one(ledger, office, number, body)
     except Refused as refusal:
-        if refusal.status in (400, 403, 404, 409, 413):
+        if refusal.status in FINAL:
             forget_unsent(ledger)
             ledger.keep()
         raise

@@ -8,6 +8,7 @@ from collections.abc import Collection, Iterable, Mapping
 
 from .csv_tables import Column, Faults, Known, Row, Table, Wanted, table_in, without_zeros
 from .dates import dates_of, starts_of
+from .limits import Limit, read_limits
 from .rights import as_caller
 
 STUDENT = ("student id", "student number", "student no", "id", "candidate", "candidate id",
@@ -35,6 +36,7 @@ COLUMNS = {
 MOST = {"exams": 2_000, "rooms": 200, "periods": 200}
 MOST_PAIRS, MOST_RULES, MOST_MINUTES = 200_000, 5_000, 1_440
 TEXTS = ("title", "university", "contact")
+LIMIT = "limit"
 PERIOD_RULES, ROOM_RULES = ("AFTER", "EXAM_COINCIDENCE", "EXCLUSION"), ("ROOM_EXCLUSIVE",)
 WEIGHTS = {"TWOINAROW": 1, "TWOINADAY": 1, "PERIODSPREAD": 1, "NONMIXEDDURATIONS": 1,
            "FRONTLOAD": 3, "OVERNIGHT": 1}
@@ -76,6 +78,7 @@ class Session:
     """What five CSV files say. Rules name exams by number, enrolments name students by ID."""
 
     texts: dict[str, str] = dataclasses.field(default_factory=dict)
+    limits: dict[str, Limit] = dataclasses.field(default_factory=dict)
     departments: dict[str, int] = dataclasses.field(default_factory=dict)
     exams: list[Exam] = dataclasses.field(default_factory=list)
     rooms: list[Room] = dataclasses.field(default_factory=list)
@@ -133,13 +136,14 @@ def read_departments(rows: Iterable[Row]) -> dict[str, int]:
 
 def sorted_rules(rows: Iterable[Row]) -> dict[str, list[Row]]:
     """The rows of rules.csv by what they are."""
-    kinds: dict[str, list[Row]] = {"text": [], "department": [], "weight": [], "rule": []}
+    kinds: dict[str, list[Row]] = {"text": [], "department": [], LIMIT: [], "weight": [],
+                                   "rule": []}
     for row in rows:
         word = row.text("rule")
         if word.lower() in TEXTS:
             kinds["text"].append(row)
-        elif word.lower() == "department":
-            kinds["department"].append(row)
+        elif word.lower() in ("department", LIMIT):
+            kinds[word.lower()].append(row)
         elif word.upper() in WEIGHTS:
             kinds["weight"].append(row)
         elif word.upper() in PERIOD_RULES + ROOM_RULES:
@@ -248,6 +252,7 @@ def read_session(folder: pathlib.Path, wanted: Wanted, faults: Faults,
     for row in kinds["text"]:
         row.new("rule", seen)
         session.texts[row.get("rule").lower()] = row.text("a")
+    session.limits = read_limits(kinds[LIMIT])
     session.departments = read_departments(kinds["department"])
     session.weights = read_weights(kinds["weight"], seen)
     departments = known_unless("rules" in unread, session.departments)

@@ -164,6 +164,7 @@ def update_titles(ledger: Ledger, known: Session, found: Session) -> int:
     ledger.db.executemany("UPDATE rooms SET building = ? WHERE name = ?", (
         (room.building, room.name) for room in moved))
     ledger.set_texts(found.texts)
+    ledger.set_limits(found.limits)
     texts = sum(found.texts.get(name, "") != text for name, text in known.texts.items())
     return len(retitled) + len(moved) + texts
 

@@ -35,10 +35,11 @@ TABLES = (
     " place INTEGER NOT NULL, PRIMARY KEY (batch, place)) WITHOUT ROWID",
     "CREATE TABLE settled (number INTEGER PRIMARY KEY, at TEXT NOT NULL, by TEXT NOT NULL)",
     "CREATE TABLE reserved (number INTEGER PRIMARY KEY, at TEXT NOT NULL)",
+    "CREATE TABLE limits (name TEXT PRIMARY KEY, percent TEXT NOT NULL, number INTEGER NOT NULL)",
 )
 # What brings a ledger of a version to the next one. The first ledgers had no effects.
-STEPS = {1: (
-    *TABLES[-4:],
+STEPS: dict[int, tuple[str, ...]] = {1: (
+    *TABLES[-5:-1],
     "ALTER TABLE students ADD COLUMN unasked_since TEXT",
     "ALTER TABLE batches ADD COLUMN turn INTEGER",
     "ALTER TABLE batches ADD COLUMN logged INTEGER",
@@ -47,6 +48,7 @@ STEPS = {1: (
     " WHERE number = one",
 ), 2: (
     "UPDATE batches SET source = 'list' WHERE source = 'file'",
+    TABLES[-1],
 )}
 
 
