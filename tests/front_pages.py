@@ -1,8 +1,8 @@
 """The pages of the front in a browser, as their users read them: what is judged, in which order.
 
 The cases are tables in pages_candidate, pages_registry, pages_editing, pages_conflicts,
-pages_seats, pages_late, pages_department and pages_all; front_page has what a user does on a page
-and what a page shows.
+pages_seats, pages_late, pages_department, pages_accessible and pages_all; front_page has what a
+user does on a page and what a page shows.
 """
 import shutil
 
@@ -10,6 +10,7 @@ import browser
 from pages_all import (
     large_texts, list_of_sessions, other_labels, pages_for_everybody, pages_in_error, pictures,
     style_is_read)
+from pages_accessible import readable_by_all
 from pages_candidate import (
     calendar_file, candidates_page, moved_exam, next_exam_first, overlapping_exams, signing_on,
     states_of_exams)
@@ -50,6 +51,7 @@ def judge(run, started, front, wide, sso, many, office, program, edited, folder)
     printed(run, chromium, wide)
     other_labels(run, chromium, wide)
     pages_for_everybody(run, chromium, front)
+    readable_by_all(run, chromium, front)
     large_texts(run, chromium, front)
     if folder:
         pictures(chromium, front, folder)
