@@ -17,6 +17,7 @@ import time
 import browser
 import front_sign_in
 import sign_on
+import waiting
 from front_cases import form_of, told_error
 from front_page import Page, csv_file, is_read
 from front_sign_in import GUNICORN, TOP, Client
@@ -56,7 +57,8 @@ class Service:
                 [GUNICORN, "--workers", "1", "--threads", "8", "--bind", f"unix:{self.socket}",
                  "--chdir", TOP / "tools", "--graceful-timeout", "2", "registry.service:app"],
                 env=self.environment, stdin=subprocess.DEVNULL, stdout=errors, stderr=errors)
-        browser.until_or_ended(self.process, "the service runs", self.socket.exists)
+        browser.until_or_ended(self.process, "the service runs",
+                               lambda: waiting.takes(self.socket))
 
     def stop(self):
         self.process.terminate()

@@ -21,6 +21,7 @@ import browser
 import debian
 import front_queue
 import limits
+import waiting
 from front_cases import FIRST_VIEW, password, told_error
 from run_serve import Run
 from serve_cases import SOLUTION
@@ -62,7 +63,7 @@ class Agent:
              "--chdir", TOP / "front", "--graceful-timeout", "2", "agent:app"],
             env=self.environment, stdin=subprocess.DEVNULL, stdout=subprocess.DEVNULL,
             stderr=subprocess.DEVNULL)
-        browser.until_or_ended(self.process, "the agent runs", lambda: self.socket.exists()
+        browser.until_or_ended(self.process, "the agent runs", lambda: waiting.takes(self.socket)
                                and (self.folder / "sessions.map").exists())
 
     def stop(self):

@@ -117,6 +117,14 @@ def run(words, *, timeout, check=False, capture_output=False, **more):
     return done
 
 
+def takes(path):
+    """Whether a socket of this path takes connections; it is there a moment before."""
+    with contextlib.suppress(OSError), socket.socket(socket.AF_UNIX) as one:
+        one.connect(str(path))
+        return True
+    return False
+
+
 class Connection(socket.socket):
     """A connection to an address of this machine, whose reads and writes have a limit in calm
     seconds."""
