@@ -30,18 +30,20 @@ import passlib.context
 import passlib.exc
 import zxcvbn
 
+import browsers
 import codes
 import sign_ins
 
 FOLDER, STATE = (pathlib.Path(os.environ[name]) for name in ("FRONT_FOLDER", "FRONT_STATE"))
 KEY = os.environ["FRONT_KEY"]
-SESSION_SECONDS, DEVICE_SECONDS = 8 * 3600, 90 * 86_400
 # The file `limits` says what these count.
 OF_USER, OF_DEVICE, OF_ADDRESS = (int(os.environ[f"GUESSES_OF_{name}"])
                                   for name in ("USER", "BROWSER", "ADDRESS"))
 NOISY_FAILURES, NOISY_REFUSALS = (int(os.environ[f"NOISY_{name}"])
                                   for name in ("FAILURES", "REFUSALS"))
-MINUTE, KEPT_SECONDS = 60, 600
+MINUTE, KEPT_SECONDS, DEVICE_SECONDS = 60, 600, 90 * 86_400
+SIGN_INS_OF_USER, SESSION_UNUSED, SESSION_LONGEST = (int(os.environ[name]) for name in (
+    "SIGN_INS_OF_USER", "SESSION_UNUSED", "SESSION_LONGEST"))
 LONGEST_NAME, LONGEST_PASSWORD, MOST_DEVICE_USERS, MOST_KNOWN = 254, 1_024, 8, 10_000
 # How hard a new password has to be to guess, of 4, and how much of it is judged.
 LEAST_SCORE, JUDGED = 3, 100
@@ -65,6 +67,9 @@ PAGES = {
     "often": (429, "Too many wrong passwords were entered for this name or from your network. Wait"
                    " a minute, then try again. A password such as 7k3f-9mhd-q2xt, from a letter, is"
                    " not affected; nor is a device on which you have signed in before."),
+    "fast": (429, "You have signed in very often in the last minutes. Wait a few minutes, then try"
+                  " again."),
+    "ended": (200, "That browser is signed out."),
     "new": (400, "This new password is too easy to guess. Take a longer one, of several words that"
                  " don't belong together, and not the form of a letter's password."),
     "same": (400, "The new password is the one that you have."),
@@ -101,7 +106,7 @@ class Kept:
         self.db = sqlite3.connect(STATE / "agent.db", check_same_thread=False, isolation_level=None)
         self.db.execute("PRAGMA journal_mode = WAL")
         self.db.execute("PRAGMA synchronous = NORMAL")
-        self.db.executescript(SCHEMA)
+        self.db.executescript(SCHEMA + browsers.SCHEMA)
 
     def ask(self, text, *values):
         with lock:
@@ -110,6 +115,7 @@ class Kept:
 
 kept = Kept()
 log = sign_ins.SignIns(STATE / "sign_ins.db")
+signed_in_on = browsers.Browsers(kept.ask)
 
 
 # ---- Counts of wrong passwords
@@ -132,10 +138,10 @@ class Counts:
         self.moments[key].append(moment)
         kept.ask("INSERT INTO failed VALUES (?, ?)", key, moment)
 
-    def note(self, key):
-        """Counts a refusal: only in memory, and no more than matter."""
+    def note(self, key, most):
+        """Counts something only in memory, and no more than matter."""
         self.moments[key].append(time.time())
-        while len(self.moments[key]) > NOISY_REFUSALS:
+        while len(self.moments[key]) > most:
             self.moments[key].popleft()
 
     def take_back(self, key, moment):
@@ -324,7 +330,7 @@ def judged(user, word, address, device):
     with lock:
         counts.sweep()
         if is_full(name, address, device):
-            counts.note(f"refused {address}")
+            counts.note(f"refused {address}", NOISY_REFUSALS)
             return 429
         for key in keys:
             counts.add(key, moment)
@@ -348,8 +354,9 @@ def noted(user, word, device):
 
 # ---- Tokens
 
-def token(kind, seconds, **more):
-    return jwt.encode({**more, "k": kind, "h": flask.request.host, "i": milliseconds(),
+def token(kind, seconds, at=None, **more):
+    """A token; sessions.lua knows the order of its claims."""
+    return jwt.encode({**more, "k": kind, "h": flask.request.host, "i": at or milliseconds(),
                        "exp": int(time.time()) + seconds}, KEY, algorithm="HS256")
 
 
@@ -486,6 +493,10 @@ def sign_in():
     status = noted(user, word, mine["j"] if knows else None)
     if status != 200:
         return shown("often" if status == 429 else "wrong", user, place)
+    with lock:
+        if counts.lately(f"right {user.lower()}", KEPT_SECONDS) >= SIGN_INS_OF_USER:
+            return shown("fast", user, place)
+        counts.note(f"right {user.lower()}", SIGN_INS_OF_USER)
     if not knows:
         log.note(user.lower(), "new_browsers", address())
     reply = flask.redirect(place, 303)
@@ -498,6 +509,12 @@ def sign_in():
     return reply
 
 
+@app.get("/-/sign-ins")
+def lately_tried():
+    """For the registry, and nginx lets nobody else ask."""
+    return flask.jsonify(sign_ins=log.summary())
+
+
 def signed_in():
     """Who is signed in by a session that counts, or nothing."""
     claims = said(cookie_names()[0], "session")
@@ -508,10 +525,24 @@ def signed_in():
     return claims["u"]
 
 
+def end_session(session, until):
+    """Ends a session, whatever later ends its tokens got."""
+    before = kept.ask("SELECT 1 FROM gone WHERE token = ?", session)
+    if not before:
+        kept.ask("INSERT INTO gone VALUES (?, ?)", session, until)
+        signed_in_on.remove(session)
+        write_sessions()
+
+
 def password_page(what, user):
     status, words = PAGES[what]
-    reply = flask.make_response(
-        flask.render_template("password.html", words=words, user=user), status)
+    here = said(cookie_names()[0], "session").get("j")
+    lines = [{"number": sealed("shown", session)[:32], "browser": browser, "address": source,
+              "since": time.strftime("%A, %H:%M", time.localtime(at // 1000)),
+              "is_here": session == here}
+             for session, at, _, source, browser in signed_in_on.of(user)]
+    reply = flask.make_response(flask.render_template(
+        "password.html", words=words, user=user, browsers=lines), status)
     if status in (401, 429):
         reply.headers["X-Failed"] = str(status)
     return reply
@@ -533,6 +564,11 @@ def change_password():
     if "everywhere" in form:
         users.end_sessions(user)
         return shown("everywhere")
+    if "end" in form:
+        for session, _, until, *_ in signed_in_on.of(user):
+            if sealed("shown", session)[:32] == form["end"]:
+                end_session(session, until)
+        return password_page("ended", user) if signed_in() else shown("out")
     mine = said(cookie_names()[1], "device")
     knows = mark_of(mine.get("j", ""), user) in mine.get("u", [])
     status = noted(user, word[:LONGEST_PASSWORD + 1], mine["j"] if knows else None)
@@ -551,9 +587,12 @@ def change_password():
 
 
 def set_session(reply, user):
+    session, at = secrets.token_urlsafe(12), milliseconds()
+    signed_in_on.add(session, user, at, at // 1000 + SESSION_LONGEST, address(),
+                     flask.request.headers.get("User-Agent", ""))
     reply.set_cookie(cookie_names()[0], token(
-        "session", SESSION_SECONDS, u=users.find(user)[0], j=secrets.token_urlsafe(12)), path="/",
-        httponly=True, secure=is_secure(), samesite="Lax")
+        "session", min(SESSION_UNUSED, SESSION_LONGEST), at, u=users.find(user)[0], j=session),
+        path="/", httponly=True, secure=is_secure(), samesite="Lax")
 
 
 @app.post("/-/sign-out")
@@ -561,8 +600,7 @@ def sign_out():
     session, _ = cookie_names()
     claims = said(session, "session")
     if claims:
-        kept.ask("INSERT OR REPLACE INTO gone VALUES (?, ?)", claims["j"], claims["exp"])
-        write_sessions()
+        end_session(claims["j"], claims["i"] // 1000 + SESSION_LONGEST)
     reply = flask.redirect("/-/sign-in?out", 303)
     reply.delete_cookie(session, path="/", secure=is_secure(), httponly=True, samesite="Lax")
     return reply
@@ -602,6 +640,7 @@ def watch():
             users.read()
         with contextlib.suppress(sqlite3.Error):
             log.write()
+            signed_in_on.sweep()
         time.sleep(1)
 
 

@@ -3,7 +3,8 @@
 
     sign_ins.py FILE [--lines]
 
-prints which accounts had wrong passwords in the last seven days, or with --lines all lines as CSV.
+prints which accounts had wrong passwords today and in the six days before, or with --lines all
+lines as CSV.
 Its size has a bound: MOST lines with a right password, and as many without. In a minute at most
 FAILED_LINES accounts have a line without a right password; what others had is one line.
 """
@@ -21,7 +22,7 @@ import threading
 import time
 
 MINUTE, DAY = 60, 86_400
-MOST, FAILED_LINES, KEPT_DAYS, SHOWN_DAYS, SHOWN = 100_000, 100, 396, 7, 10
+MOST, FAILED_LINES, KEPT_DAYS, SHOWN_DAYS, SHOWN = 100_000, 100, 396, 6, 10
 # How many addresses a line names, and how many it can count.
 NAMED, COUNTED = 3, 100
 # No names of accounts, which have no blanks.
@@ -74,6 +75,12 @@ class SignIns:
             self.lines.setdefault(name, Line()).add(end, address)
             self.changed.add(name)
 
+    def summary(self) -> list[str]:
+        """What summary() says, of all that happened."""
+        with self.lock:
+            self.write_lines()
+            return summary(self.db)
+
     def failed(self) -> int:
         """How many accounts have a line without a right password so far."""
         if len(self.lines) < FAILED_LINES:
@@ -106,25 +113,40 @@ class SignIns:
 
 
 def counted(number: int, noun: str, plural: str) -> str:
-    more = "+" if number >= COUNTED and noun == "address" else ""
-    return f"{number:,}{more} {noun if number == 1 else plural}"
+    return f"{number:,} {noun if number == 1 else plural}"
+
+
+def source(db: sqlite3.Connection, name: str, since: int) -> str:
+    """From how many addresses an account had wrong passwords, as far as the lines say."""
+    rows = db.execute("SELECT addresses, some FROM sign_ins WHERE name = ? AND minute > ? AND "
+                      "wrong + refused > 0", (name, since)).fetchall()
+    named = {address for _, some in rows for address in some.split()}
+    number = max(len(named), *(most for most, _ in rows))
+    more = "at least " if any(most > NAMED for most, _ in rows) else ""
+    return more + counted(number, "address", "addresses")
 
 
 def summary(db: sqlite3.Connection) -> list[str]:
-    """Sentences about the accounts with the most wrong passwords of the last days."""
-    since = SignIns.now() - SHOWN_DAYS * DAY // MINUTE
+    """Sentences about the accounts with the most wrong passwords of the last days, such as
+    17 wrong passwords for registry since Monday, from 3 addresses, the last on Tuesday at 09:12."""
+    today = datetime.datetime.now().replace(hour=0, minute=0, second=0, microsecond=0)
+    since = int((today - datetime.timedelta(days=SHOWN_DAYS)).timestamp()) // MINUTE
+
+    def day(moment: datetime.datetime) -> str:
+        return "today" if moment >= today else f"{moment:%A}"
+
     rows = db.execute(
-        "SELECT name, sum(wrong + refused), max(addresses), max(minute), sum(new_browsers) FROM "
-        "sign_ins WHERE minute > ? GROUP BY name HAVING sum(wrong + refused) > 0 ORDER BY 2 DESC, 1"
-        " LIMIT ?", (since, SHOWN)).fetchall()
+        "SELECT name, sum(wrong + refused), min(minute), max(minute), sum(new_browsers) "
+        "FROM sign_ins WHERE minute > ? AND wrong + refused > 0 "
+        "GROUP BY name ORDER BY 2 DESC, 1 LIMIT ?",
+        (since, SHOWN)).fetchall()
     said = []
-    for name, wrong, addresses, last, browsers in rows:
-        moment = datetime.datetime.fromtimestamp(last * MINUTE).strftime("%F %H:%M")
-        said.append(f"{counted(wrong, 'wrong password', 'wrong passwords')} for {name} in "
-                    f"{SHOWN_DAYS} days, from {counted(addresses, 'address', 'addresses')} in a "
-                    f"minute, the last at {moment}" + (
-                        f"; {counted(browsers, 'new browser', 'new browsers')}" if browsers
-                        else ""))
+    for name, wrong, *minutes, browsers in rows:
+        first, last = (datetime.datetime.fromtimestamp(one * MINUTE) for one in minutes)
+        when = f"{'' if last >= today else 'on '}{day(last)} at {last:%H:%M}"
+        new = f"; {counted(browsers, 'new browser', 'new browsers')}" if browsers else ""
+        said.append(f"{counted(wrong, 'wrong password', 'wrong passwords')} for {name} since "
+                    f"{day(first)}, from {source(db, name, since)}, the last {when}{new}")
     return said
 
 

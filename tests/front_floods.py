@@ -49,6 +49,7 @@ ROWS = [
      ({401}, {200, 429}, {200, 429}, {200, 429})),
     (("GET", "/-/user"), "= /-/user | @user | @user_is",
      ({401}, {200, 429}, {200, 429}, {200, 429})),
+    (("GET", "/-/sign-ins"), "= /-/sign-ins", ({401}, {403, 429}, {403, 429}, {403, 429})),
     (("GET", "/me/penalty"), r"~ ^/(me|instance|exams|drafts|publication|batches)(/|$) | @office",
      ({401}, {200, 429}, {403, 429}, {403, 429})),
     (("POST", f"/drafts/1/{LONG}"), "@denied | @often | @foreign | @edit",
@@ -82,6 +83,8 @@ ROWS = [
 WHO = "a stranger", "a candidate", "a department", "another site's page"
 # What nobody reached above: accounts that are nobody.
 NOBODY = ("POST", f"/drafts/1/{LONG}"), "@nobody", {400, 429}
+# What only the office reaches, which isn't counted.
+OFFICE = ("GET", "/-/sign-ins"), "@sign_ins", {200}
 # Single sign-on has two locations of the same names.
 OF_SINGLE_SIGN_ON = {"= /-/who", "= /signed-out.html", "/oauth2/"}
 
@@ -174,9 +177,10 @@ def floods(run, stack, state, count):
             cell = f"{question[0]} {question[1][:20]} by {who}, {state}"
             asked = message(stack.host, question, kind and stack.cookie(kind), origin)
             judge_flood(run, stack, cell, asked, expected, state, count)
-    question, _, expected = NOBODY
-    judge_flood(run, stack, f"{question[0]} by nobody, {state}",
-                message(stack.host, question, stack.cookie("n"), None), expected, state, count)
+    for (question, _, expected), who, kind in ((NOBODY, "nobody", "n"),
+                                               (OFFICE, "the office", "registry")):
+        judge_flood(run, stack, f"{question[0]} {question[1][:20]} by {who}, {state}",
+                    message(stack.host, question, stack.cookie(kind), None), expected, state, count)
 
 
 def judge_flood(run, stack, cell, asked, expected, state, count):
@@ -190,7 +194,7 @@ def judge_flood(run, stack, cell, asked, expected, state, count):
 
 
 def table_is_whole(run):
-    reached = {one for _, names, _ in [*ROWS, (*NOBODY[:2], None)] for one in names.split(" | ")}
+    reached = {one for _, names, _ in [*ROWS, NOBODY, OFFICE] for one in names.split(" | ")}
     found = locations("server.conf") | locations("sign_in.conf")
     run.judge("locations that no flood reaches", (set(), set()), (found - reached,
                                                                   reached - found - {""}))

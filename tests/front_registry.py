@@ -919,6 +919,13 @@ def conflicts_on_the_page(run, page, stack, office):
     stack.service.start()
 
 
+WRONG_PASSWORD = """
+return fetch('/-/sign-in', {
+  method: 'POST', body: new URLSearchParams({ user: 'ada', password: 'guess' }),
+}).then((reply) => reply.status);
+"""
+
+
 def history_on_the_page(page):
     """What happened, with who and when; the difference of two publications; the way back."""
     page.steps(
@@ -933,6 +940,11 @@ def history_on_the_page(page):
                 "Draft 1 published: publication 1, 37 points, 6 seats changed", "Draft 1 made"]}),
         ("a batch's lines", [], {"texts #history-found tr:nth-child(3) button": [
             "Reverse …", "Lines as CSV"]}))
+    page.reader.run(WRONG_PASSWORD)
+    page.steps(("wrong passwords", "click #refresh", {"hidden #sign-ins": False}))
+    page.run.judge("whose they are", True, bool(re.fullmatch(
+        "1 wrong password for ada since today, from 1 address, the last today at ..:..",
+        "".join(page.reader.texts("#sign-ins-found li")))))
     page.judge_file("batch-20.csv", "#history-found tr:nth-child(3) button:last-child", csv_file(
         "student,id,name,exam,title,action,changed", "4,r9,Zoë Zander,MATH101,Calculus,add,yes",
         "4,r9,Zoë Zander,PHYS102,Optics,add,yes"))

@@ -3,8 +3,10 @@ import collections
 import concurrent.futures
 import contextlib
 import csv
+import datetime
 import http.client
 import importlib
+import json
 import os
 import pathlib
 import re
@@ -31,6 +33,7 @@ jwt = debian.module("jwt")
 
 TOP = pathlib.Path(__file__).resolve().parent.parent
 sys.path.append(str(TOP / "front"))
+codes = importlib.import_module("codes")
 GUNICORN = shutil.which("gunicorn")
 # Beyond this nothing is waited for. Long, because other tests run beside.
 SECONDS = 100
@@ -86,8 +89,8 @@ class SignInQueue(front_queue.Queue):
 class Client:
     """A browser without pages: an address, its cookies, and the replies to it."""
 
-    def __init__(self, front, source="127.0.0.1", host=None):
-        self.front, self.source, self.cookies = front, source, {}
+    def __init__(self, front, source="127.0.0.1", host=None, agent=""):
+        self.front, self.source, self.cookies, self.agent = front, source, {}, agent
         self.host = host or f"127.0.0.1:{front.port}"
 
     def ask(self, method, path, body=None, **fields):
@@ -96,6 +99,7 @@ class Client:
             cookies = "; ".join(f"{name}={text}" for name, text in self.cookies.items())
             client.request(method, path, body, {
                 "Host": self.host, **({"Cookie": cookies} if cookies else {}),
+                **({"User-Agent": self.agent} if self.agent else {}),
                 **{name.replace("_", "-"): text for name, text in fields.items()}})
             reply = client.getresponse()
             for line in reply.headers.get_all("Set-Cookie", ()):
@@ -254,7 +258,9 @@ def forged(run, stack):
             ada.cookies = {}
             run.judge(f"a bearer's token {name}", 401,
                       ada.ask("GET", "/-/user", Authorization=f"Bearer {token}")[0])
-    verified(run, stack, right, made(exp=int(time.time()) + 3))
+    # Eight hours after signing in there is no later end.
+    now = int(time.time())
+    verified(run, stack, right, made(i=(now - 8 * 3_600) * 1_000, exp=now + 3))
 
 
 def verified(run, stack, right, short):
@@ -543,10 +549,39 @@ def log_of_sign_ins(run, stack):
               (found(), lines.stat().st_mode & 0o777))
     run.judge("names that nobody has", True, any(
         line.partition(",")[2].startswith("names that nobody has,") for line in printed("--lines")))
-    run.judge("what it says", [True], [bool(re.match(
-        r"5 wrong passwords for mia in 7 days, from [1-6] address(es)? in a minute, the last at .*"
-        r"; 1 new browser", line)) for line in printed() if " mia " in line])
+    said = re.compile(r"5 wrong passwords for mia since \w+, from (at least )?[56] addresses, the"
+                      r" last (on )?\w+ at \d\d:\d\d(; 1 new browser)?")
+    run.judge("what it says", [True], [bool(said.fullmatch(line)) for line in printed()
+                                       if " mia " in line])
+    for user, status in (("ada", 403), ("physics", 403), ("registry", 200), (None, 401)):
+        client = Client(stack.front)
+        if user:
+            client.sign_in(user)
+        came, _, body = client.ask("GET", "/-/sign-ins")
+        run.judge(f"what the page of {user} has", (status, status == 200), (came, any(
+            said.fullmatch(line) for line in json.loads(body).get("sign_ins", []))))
     users.write_text(before)
+
+
+def summaries(run):
+    """Sentences of the log, by lines of days before: the day is that of the first wrong one."""
+    module = importlib.import_module("sign_ins")
+    log = module.SignIns(run.folder / "summaries.db")
+    noon = datetime.datetime.now().replace(hour=12, minute=0, second=0, microsecond=0)
+    rows = (("ada", 7, 9, 0, "1"), ("ada", 6, 2, 0, "1 2"), ("ada", 2, 3, 1, "2 3"),
+            ("ada", 0, 0, 0, ""), ("ben", 1, 0, 1, "4 5 6+9"), ("cleo", 0, 1, 0, "7"))
+    for name, days, wrong, refused, some in rows:
+        some, _, more = some.partition("+")
+        log.db.execute("INSERT INTO sign_ins VALUES (?, ?, ?, ?, ?, ?, ?, ?)", (
+            int((noon - datetime.timedelta(days=days)).timestamp()) // 60, name, not wrong, wrong,
+            refused, 0, int(more or len(some.split())), some))
+    six, two, one = (f"{noon - datetime.timedelta(days=days):%A}" for days in (6, 2, 1))
+    run.judge("sentences", [
+        f"6 wrong passwords for ada since {six}, from 3 addresses, the last on {two} at 12:00",
+        f"1 wrong password for ben since {one}, from at least 9 addresses, the last on {one} at"
+        " 12:00",
+        "1 wrong password for cleo since today, from 1 address, the last today at 12:00",
+    ], log.summary())
 
 
 def bounded_log(run):
@@ -598,6 +633,102 @@ def marks(run, stack):
     users.write_text(before)
 
 
+def is_out(client):
+    """Whether nobody is signed in there."""
+    # Less often than a user may ask.
+    time.sleep(0.2)
+    return client.view("/-/user")[0] == 401
+
+
+def later_ends(run, stack):
+    """Whoever goes on is signed in for two hours more each time, until eight hours after signing
+    in; what ends a session ends its later tokens too."""
+    # The office's requests aren't limited.
+    client = Client(stack.front, "127.64.0.1")
+    client.sign_in("registry")
+    first, hour, now = client.cookies["session"], 3_600, int(time.time())
+    claims = jwt.decode(first, stack.key, algorithms=["HS256"])
+    run.judge("a new session's end", True, 2 * hour - 60 < claims["exp"] - now <= 2 * hour)
+    # Hours since the sign-in, hours until the token's end, and until that of the next one, if any.
+    for since, left, longer in ((0.1, 1.9, None), (1, 1, 2), (3, 0.01, 2), (6.5, 0.2, 1.5),
+                                (7, 1, None), (7.9, 0.05, None), (9, 0.5, None)):
+        at, end = now - int(since * hour), now + int(left * hour)
+        client.cookies = {"session": jwt.encode({
+            **claims, "i": at * 1000, "exp": end}, stack.key, algorithm="HS256")}
+        status, header, _ = client.ask("GET", "/-/user")
+        later = jwt.decode(client.cookies["session"], stack.key, algorithms=["HS256"])
+        run.judge(f"{since} hours later", (200, ["HttpOnly", "Path=/", "SameSite=Lax"] if longer
+                                           else [], {**claims, "i": at * 1000}), (
+            status, sorted((header["Set-Cookie"] or "").split("; ")[1:]),
+            {**later, "exp": claims["exp"]}))
+        expected = end if longer is None else now + longer * hour
+        run.judge(f"its end, {since} hours later", True, abs(later["exp"] - expected) < 60)
+        if longer:
+            status, header, _ = client.ask("GET", "/-/user")
+            run.judge("the next one has no other", (200, None), (status, header["Set-Cookie"]))
+    later = jwt.encode({**claims, "i": (now - hour) * 1000, "exp": now + hour}, stack.key,
+                       algorithm="HS256")
+    client.cookies = {"session": later}
+    client.view("/-/user")
+    longer = client.cookies["session"]
+    client.cookies = {"session": first}
+    client.sign_out()
+    for name, token in (("the first token", first), ("a later one", longer)):
+        client.cookies = {"session": token}
+        browser.until(f"{name} has ended", lambda: client.view("/-/user")[0] == 401)
+
+
+def ends_of_browsers(run, stack):
+    """People see the browsers on which they are signed in, and end them one by one."""
+    path = "/-/sign-in/password"
+    users, before = stack.front.folder / "users", (stack.front.folder / "users").read_text()
+    users.write_text(f"{before}kim:{codes.digest('kim', 'aaaa-bbbb-cccc')}\n")
+    agents = {"127.65.0.1": "Mozilla/5.0 (X11; Linux x86_64; rv:128.0) Gecko/20100101 Firefox/12.0",
+              "127.65.0.2": "Mozilla/5.0 (Windows NT 10.0; Win64; x64) AppleWebKit/537.36 (KHTML, "
+                            "like Gecko) Chrome/120.0.0.0 Safari/537.36 Edg/120.0.0.0",
+              "127.65.0.3": "curl/7.88 <b>", "127.65.0.4": ""}
+    people = [Client(stack.front, address, agent=agent) for address, agent in agents.items()]
+    for client in people:
+        run.judge("a code", 303, client.sign_in("kim", "aaaa-bbbb-cccc")[0])
+    browser.until("the queue knows them", lambda: not is_out(people[0]))
+
+    def shown(client):
+        page = client.ask("GET", path)[2].decode()
+        return re.findall(r'<p class="browser">(.*?), since (.*?), from (.*?): (.*?)</p>', page)
+
+    def changes(client, **form):
+        return client.ask("POST", path, urllib.parse.urlencode(form), Accept="text/html",
+                          Content_Type="application/x-www-form-urlencoded",
+                          Origin=f"http://{client.host}")
+
+    seen = shown(people[0])
+    run.judge("browsers", {("Firefox on Linux", "127.65.0.1", True),
+                           ("Edge on Windows", "127.65.0.2", False),
+                           ("another program", "127.65.0.3", False),
+                           ("another program", "127.65.0.4", False)},
+              {(name, address, last == "this browser") for name, _, address, last in seen})
+    numbers = {address: re.search('value="([0-9a-f]{32})"', last) for _, _, address, last in seen}
+    ben = Client(stack.front, "127.65.1.1")
+    ben.sign_in("ben")
+    changes(ben, end=numbers["127.65.0.2"][1])
+    run.judge("by somebody else", (4, 200), (len(shown(people[0])), people[1].view("/-/user")[0]))
+    status, _, page = changes(people[0], end=numbers["127.65.0.2"][1])
+    run.judge("one is ended", (200, True, 3), (
+        status, b"That browser is signed out" in page, len(shown(people[0]))))
+    browser.until("it is nobody", lambda: is_out(people[1]))
+    people[2].sign_out()
+    run.judge("who signed out isn't shown", (2, [200, 200]), (
+        len(shown(people[0])), [people[number].view("/-/user")[0] for number in (0, 3)]))
+    changes(people[0], everywhere="on")
+    people[0].sign_in("kim", "aaaa-bbbb-cccc")
+    run.judge("everywhere", 1, len(shown(people[0])))
+    often = collections.Counter(people[1].sign_in("kim", "aaaa-bbbb-cccc")[0] for _ in range(110))
+    most = int(limits.numbers()["SIGN_INS_OF_USER"])
+    run.judge("right ones without end", ({303: most - 5, 429: 115 - most}, 50), (
+        often, len(shown(people[0]))))
+    users.write_text(before)
+
+
 def own_passwords(run, stack):
     """Who is signed in changes their password, which ends all that others have of them."""
     path = "/-/sign-in/password"
@@ -627,11 +758,6 @@ def own_passwords(run, stack):
     run.judge("a new password", (200, True), (
         (came := changes(here, user="ada", password="try-cleo", new=new))[0],
         "You have a new password" in came[1]))
-
-    def is_out(client):
-        # Less often than a user may ask.
-        time.sleep(0.2)
-        return client.view("/-/user")[0] == 401
 
     browser.until("others are signed out", lambda: is_out(there))
     run.judge("who changed it isn't", 200, here.view("/-/user")[0])
@@ -911,7 +1037,7 @@ def judge_stack(run, make_front):
         for part in (sessions, asked_too_often, forged, old_hashes, users_of_a_file,
                      codes_of_letters, names_of_users, programs, basic, networks, a_crowd,
                      first_sign_ins, beside_hashes, log_of_sign_ins, ends, guesses, as_long, marks,
-                     own_passwords, another_key):
+                     later_ends, ends_of_browsers, own_passwords, another_key):
             part(run, stack)
     finally:
         stack.stop()
@@ -953,6 +1079,7 @@ def judge(of_front, make_front):
         return
     run = Run.apart(of_front.program, of_front.folder, "front", "sign_in")
     bounded_log(run)
+    summaries(run)
     tls = threading.Thread(target=over_tls, args=(run, make_front))
     tls.start()
     judge_stack(run, make_front)

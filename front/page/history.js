@@ -9,6 +9,7 @@ import { showProgress } from './messages.js';
 import { numberOf } from './names.js';
 import { count, numeral } from './numbers.js';
 import { changedRows, People, WHOSE, whose } from './seats.js';
+import { showSignIns } from './signins.js';
 import { office } from './state.js';
 
 const PATH = '/-/registry';
@@ -217,7 +218,7 @@ async function find(query) {
 /** Shows the section, with all that happened. */
 export async function showHistory() {
   byId('history-differences').replaceChildren();
-  await find('');
+  await Promise.all([find(''), showSignIns()]);
 }
 
 // ---- Looking for an exam, a candidate or a batch
