@@ -21,6 +21,8 @@ from .versions import TABLES, VERSION, bring_to_today, version_of
 from .versions import NotALedger as NotALedger
 
 NAME = "ledger.db"
+# What is in a folder while it is put back from a copy.
+RESTORING = "restoring"
 MOST_STUDENT = 999_999_999
 # How many numbers a ledger that is lost may have given since its copy.
 LOST = 10_000
@@ -41,6 +43,9 @@ def locked(folder: pathlib.Path) -> Iterator[None]:
     held = os.open(folder, os.O_RDONLY | os.O_DIRECTORY | os.O_NOFOLLOW)
     try:
         fcntl.flock(held, fcntl.LOCK_EX)
+        if (folder / RESTORING).exists():
+            raise NotALedger(f"{folder} is being put back from a copy, and that was cut off: "
+                             "finish it by the same words of restore")
         yield
     finally:
         os.close(held)
