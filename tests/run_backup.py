@@ -21,6 +21,8 @@ from serve_cases import EXAMPLES, PENALTY, SOLUTION, message
 TOP = pathlib.Path(__file__).resolve().parent.parent
 SECONDS = 180
 SIGNALS = signal.SIGTERM, signal.SIGINT, signal.SIGHUP
+# What is in a folder of copies beside these.
+NOTES = ".lock", ".term.json"
 
 
 def with_signals():
@@ -92,8 +94,8 @@ def while_it_runs(judged, program, folder, office, database):
     judged.judge("copies of an office that is edited", [(0, "")] * 3, [it[::2] for it in came])
     judged.judge("it waited", True, longest.result() < 5)
     judged.judge("nothing else is kept", sorted({first, *(it[1] for it in came)}),
-                 sorted(f"{it}\n" for it in copies.iterdir() if it.name != ".lock"))
-    copy = Office(program, came[-1][1].strip())
+                 sorted(f"{it}\n" for it in copies.iterdir() if it.name not in NOTES))
+    copy = Office(program, f"{came[-1][1].strip()}/office.db")
     judged.judge("a copy is an office", True, asked(copy, PENALTY)[0] == before[0] == 200)
     copy.killed()
     kills(judged, program, office, database, copies)
@@ -124,15 +126,19 @@ def thinning(judged, program, folder, database):
     times = [midnight - datetime.timedelta(days=day) + datetime.timedelta(hours=hour)
              for day in range(1, 41) for hour in (1, 7, 13, 19)]
     for moment in times:
-        (copies / name(moment)).touch()
+        # Copies of an older version are files.
+        if moment.hour < 13:
+            (copies / name(moment)).touch()
+        else:
+            (copies / name(moment).removesuffix(".db")).mkdir()
     (copies / "term-older.db").touch()
     _, made, _ = ended(backup(program, database, copies))
     day = datetime.timedelta(days=1)
     kept = [moment for moment in times
             if moment > now - day or (moment.hour == 19 and moment > now - 31 * day)]
-    others = pathlib.Path(made.strip()).name, "term-older.db", ".lock"
-    judged.judge("which copies are kept", sorted([*map(name, kept), *others]),
-                 sorted(it.name for it in copies.iterdir()))
+    others = pathlib.Path(made.strip()).name + ".db", "term-older.db"
+    judged.judge("which copies are kept", sorted([*map(name, kept), *others]), sorted(
+        it.name.removesuffix(".db") + ".db" for it in copies.iterdir() if it.name not in NOTES))
 
 
 def of_no_office(judged, program, folder):
@@ -141,7 +147,11 @@ def of_no_office(judged, program, folder):
     words = "backup: the copy is not an office: examoffice: store fault 9\n"
     judged.judge("another program's file", (1, "", words),
                  ended(backup(program, database, copies)))
-    judged.judge("nothing is kept of it", [".lock"], [it.name for it in copies.iterdir()])
+    judged.judge("nothing is kept of it", "no copy could be made: the copy is not an office: "
+                 "examoffice: store fault 9\n", (copies / "damaged.told").read_text())
+    judged.judge("no copy of it", [], [it.name for it in copies.iterdir()
+                                       if it.name not in (".lock", ".damaged.json",
+                                                          "damaged.told")])
     words = "backup: the copy can't be checked: /none: No such file or directory\n"
     judged.judge("no program", (1, "", words), ended(backup("/none", database, copies)))
     judged.judge("no file", (1, "", f"backup: there is no file {folder}/no.db\n"),

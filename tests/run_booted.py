@@ -183,15 +183,22 @@ def registry(judged, machine):
 
 
 def backups(judged, machine):
-    machine.types("""cd /etc/examoffice; printf '#!/bin/sh\\nls "$1"/"$2"-*.db > /shipped\\n' > ship
+    machine.types("""cd /etc/examoffice
+        printf '#!/bin/sh\\nls -d "$1"/"$2"-*Z > /shipped\\n' > ship
         chmod 755 /etc/examoffice/ship; rm -rf /var/backups/examoffice
         systemctl start examoffice-backup@term; systemctl start examoffice-backup@term""")
     judged.judge("one backup, and who may read it", "1\n600\n700", machine.types(
-        "ls /var/backups/examoffice | wc -l; stat -c %a /var/backups/examoffice/term-*.db"
+        "ls /var/backups/examoffice | wc -l; stat -c %a /var/backups/examoffice/term-*/office.db"
         " /var/backups/examoffice"))
     judged.judge("it is sent away", "1", wait(machine, "wc -l < /shipped", "1"))
     judged.judge("it is the office, of four exams", "4", machine.types(
-        "cp /var/backups/examoffice/term-*.db /copy.db; examoffice export --db /copy.db | wc -l"))
+        "cp /var/backups/examoffice/term-*/office.db /copy.db; examoffice export --db /copy.db"
+        " | wc -l"))
+    judged.judge("its parts", "about.json callers digests history.db ledger.db office.db users",
+                 machine.types("cd /var/backups/examoffice/term-*; echo *"))
+    judged.judge("what belongs to the machine, and who may read it", "700 root\n1", machine.types(
+        "stat -c '%a %U' /var/backups/examoffice-machine; find /var/backups/examoffice-machine"
+        " -name front.key | wc -l"))
     for unit, most in (
             ("examoffice@term", 1.5), ("examoffice-backup@term", 1.5), ("examoffice-front", 3.0),
             ("examoffice-queue", 1.5), ("examoffice-agent", 1.5), ("examoffice-registry", 1.5),

@@ -116,15 +116,22 @@ def says_age_of_copies(judged, folder, program):
             made.mkdir()
         files = [(data / "term.db", 50), (data / "term.db-wal", changed)]
         if copied:
+            # One of an older version is a file.
+            (copies / "term-20270514T133000Z").mkdir()
             files += [(copies / "term-20270514T120000Z.db", 60),
-                      (copies / "term-20270514T133000Z.db", copied)]
+                      (copies / "term-20270514T133000Z", copied)]
         for file, minutes in files:
-            file.write_text("")
+            file.is_dir() or file.write_text("")
             os.utime(file, (now - 60 * minutes - 1,) * 2)
         said = ran(program, "term", env=environment)[1]
         judged.judge(case, (age is not None, warns),
-                     (f"newest copy: term-20270514T133000Z.db, {age}\n" in said,
+                     (f"newest copy: term-20270514T133000Z, {age}\n" in said,
                       "changed 20 minutes ago, and there is no copy since" in said))
+    (data / "term.told").write_text("the office lacks 1 batch\n")
+    (copies / "term.told").write_text("the copy term-1 is damaged\nanother line\n")
+    judged.judge("what is told", ["the copy term-1 is damaged", "another line",
+                                  "the office lacks 1 batch"], re.findall(
+        "warning: (.*(?:copy term-1|line|lacks).*)", ran(program, "term", env=environment)[1]))
 
 
 def says_unreadable_names(judged, folder, program):
@@ -165,7 +172,11 @@ def of_the_package(judged, folder):
     judged.judge("its commands, and the status of their help", dict.fromkeys(
         ("examoffice", "examoffice-session-from-csv", "examoffice-status",
          "examoffice-token", "examoffice-users-from-csv", "examoffice-changes-from-csv",
-         "examoffice-next-session", "examoffice-lists"), 0), commands)
+         "examoffice-next-session", "examoffice-lists", "examoffice-restore"), 0), commands)
+    judged.judge("its tools that nobody types, and the status of their help",
+                 {"backup": 0, "check_file": 0}, {name: ran(
+                     root / "usr/libexec/examoffice" / name, "--help")[0]
+                     for name in ("backup", "check_file")})
     says_status(judged, folder, root / "usr" / "bin" / "examoffice-status")
     if shutil.which("logrotate"):
         # The package's group isn't there.
