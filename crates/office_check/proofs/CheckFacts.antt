@@ -1,6 +1,6 @@
 -- Facts about a run from its parts.
 use Rattle.std.proofs.Common.{◌≡◌, ℕ, ◌⊎◌, List, [], ◌∷◌, Option, Some, None, IfSome}
-use Rattle.std.proofs.Common.{inl, inr, refl, sym, subst}
+use Rattle.std.proofs.Common.{◌∙◌, ◌≢◌, inl, inr, refl, sym, subst}
 use Rattle.exam_model.specs.Enrolments.{Enrolled}
 use Rattle.exam_model.specs.Instance.{Session}
 use Rattle.exam_model.specs.Timetable.{Placing}
@@ -91,6 +91,16 @@ solution_refused (Some instance) (Some solution) I enrolled input fault one bad 
     refuses Read bad = first
     refuses (File f) bad = record { first = first; fault = bad }
     refuses NoMemory bad = tt
+
+-- it isn't one of writing
+pub solution_unwritten : (input : InputFault) (f : CheckFault) → f ≡ of_solution input
+    → f ≢ fault.Write
+solution_unwritten Read f same is =
+    let never : fault.ReadSolution ≡ fault.Write = sym same ∙ is in absurd cc
+solution_unwritten (File of) f same is =
+    let never : fault.Solution of ≡ fault.Write = sym same ∙ is in absurd cc
+solution_unwritten NoMemory f same is =
+    let never : fault.NoMemory ≡ fault.Write = sym same ∙ is in absurd cc
 
 -- a reading of the input has a verdict
 pub verdict_on : (a : Option (List ℕ)) (I : Session) (E : Enrolled) (placing : Placing)

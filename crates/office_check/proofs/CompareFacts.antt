@@ -1,5 +1,5 @@
 -- Facts about a comparison from its parts.
-use Rattle.std.proofs.Common.{◌≡◌, ◌∙◌, ◌++◌, [], Bool, Contains, ℕ, IfSome, List, None, Option, Some, ap, ap₂, codes, filter, length, not, subst, sym}
+use Rattle.std.proofs.Common.{◌≡◌, ◌≢◌, ◌∙◌, ◌++◌, [], Bool, Contains, ℕ, IfSome, List, None, Option, Some, ap, ap₂, codes, filter, length, not, subst, sym}
 use Rattle.std.specs.Prelude.{IsTrue, ◌↔◌}
 use Rattle.std.specs.Io.KnownBytes.{Appends}
 use Rattle.exam_lists.proofs.Appended.{appended, appended_twice}
@@ -115,6 +115,16 @@ refused_after (Some x) (Some y) (Some z) I E A input f known bad same = rw same 
     refuses Read bad = are_read known
     refuses (File f) bad = record { read = are_read known; fault = bad }
     refuses NoMemory bad = tt
+
+-- it isn't one of writing
+pub after_unwritten : (input : InputFault) (f : CompareFault) → f ≡ of_after input
+    → f ≢ fault.Check check.Write
+after_unwritten Read f same is =
+    let never : fault.ReadAfter ≡ fault.Check check.Write = sym same ∙ is in absurd cc
+after_unwritten (File of) f same is =
+    let never : fault.After of ≡ fault.Check check.Write = sym same ∙ is in absurd cc
+after_unwritten NoMemory f same is =
+    let never : fault.Check check.NoMemory ≡ fault.Check check.Write = sym same ∙ is in absurd cc
 
 -- writing fails after all texts are read
 pub refused_write : (a b c : Option (List ℕ)) (text : List ℕ) → IsComparisonFrom a b c text

@@ -1,6 +1,5 @@
 -- The text of one student's summands, from that of the student's enrolments.
-use Rattle.std.proofs.Common.{◌≡◌, ◌∙◌, ◌++◌, ℕ, List, Option, append_assoc, subst}
-use Rattle.std.specs.Io.KnownBytes.{Appends}
+use Rattle.std.proofs.Common.{◌≡◌, ◌∙◌, ◌++◌, ℕ, List, append_assoc}
 use Rattle.std.specs.List.{flat_map}
 use Rattle.exam_model.specs.Enrolments.{Enrolled}
 use Rattle.exam_model.specs.Instance.{Session}
@@ -23,14 +22,11 @@ own_pairs I E own T s are =
     ++ flat_map (pair_line Night) (are.reasons I T Night i)
 
 -- the report, the pairs and their sum, which are the student's
-pub own_text_written : (I : Session) (E own : Enrolled) (T : Placing) (s points : ℕ)
-    (old new : Option (List ℕ)) (first : List ℕ) → AreOwn E s own → first ≡ report I E T
-    → points ≡ personal_total (own_share I E T s)
-    → Appends old new (first ++ all_pairs_text I own T ++ sum_line s points)
-    → Appends old new (report I E T ++ own_text I E T s)
-own_text_written I E own T s points old new first are reported summed written =
-    subst (Appends old new)
-    ((λ i. reported i ++ own_pairs I E own T s are i ++ sum_line s (summed i))
+pub own_text_is : (I : Session) (E own : Enrolled) (T : Placing) (s points : ℕ) (first : List ℕ)
+    → AreOwn E s own → first ≡ report I E T → points ≡ personal_total (own_share I E T s)
+    → first ++ all_pairs_text I own T ++ sum_line s points ≡ report I E T ++ own_text I E T s
+own_text_is I E own T s points first are reported summed =
+    (λ i. reported i ++ own_pairs I E own T s are i ++ sum_line s (summed i))
     ∙ append_assoc (report I E T) (own_pairs_text I E T s Row ++ own_pairs_text I E T s Day
     ++ own_pairs_text I E T s Spread ++ own_pairs_text I E T s Night)
-    (sum_line s (personal_total (own_share I E T s)))) written
+    (sum_line s (personal_total (own_share I E T s)))

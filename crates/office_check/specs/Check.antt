@@ -9,6 +9,7 @@ use Rattle.exam_rules.specs.declared.breach.Breach.{Breach}
 use Rattle.exam_score.specs.Track.{track}
 use Rattle.office_files.specs.InstanceText.{InstanceText}
 use Rattle.office_files.specs.SolutionText.{SolutionText}
+use Rattle.office_output.specs.Writing.{WritesFront}
 use Rattle.office_reports.specs.Reports.{penalty_text, violation_text}
 
 -- the printed text: the breaches, then the penalty
@@ -85,3 +86,8 @@ pub record IsReported (I : Session) (E : Enrolled) (T : Placing) (old new : Opti
 -- some two texts have a reading, its report is written, and its status is answered
 abbrev pub WritesReport : Option (List ℕ) → Option (List ℕ) → ℕ → Type 0
 WritesReport old new answer = OfSome (λ I E T. IsReported I E T old new answer)
+
+-- a front of the report is written
+abbrev pub ReportsFront : Session → Enrolled → Placing → Option (List ℕ) → Option (List ℕ)
+    → Type 0
+ReportsFront I E T old new = WritesFront old new (report I E T)

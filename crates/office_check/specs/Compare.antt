@@ -17,6 +17,7 @@ use Rattle.office_files.specs.SolutionText.{SolutionText}
 use Rattle.office_files.specs.declared.fault.FileFault.{FileFault}
 use Rattle.office_files.specs.declared.inputs.InputFault.{InputFault}
 use Rattle.office_files.specs.declared.inputs.InputFault.TheVariants as input
+use Rattle.office_output.specs.Writing.{WritesFront}
 use Rattle.office_reports.specs.Reports.{number_line, violation_text}
 use Rattle.office_check.specs.Check.{AreRead, IsInput, IsRead}
 use Rattle.office_check.specs.Refusing.{Refuses}
@@ -116,6 +117,11 @@ pub record ComparesSome (old new : Option (List ℕ)) : Type 0 where
   pub before : List ℕ
   pub after : List ℕ
   pub compares : Compares instance before after old new
+
+-- the texts have a reading, and a front of what differs is written
+abbrev pub ComparesFront : List ℕ → List ℕ → List ℕ → Option (List ℕ) → Option (List ℕ) → Type 0
+ComparesFront instance before after old new =
+    (text : List ℕ) × IsComparison instance before after text × WritesFront old new text
 
 -- ---- faults
 

@@ -6,6 +6,7 @@ use Rattle.exam_model.specs.Instance.{Session}
 use Rattle.exam_model.specs.Timetable.{Placing}
 use Rattle.exam_places.specs.Answers.{answers_of}
 use Rattle.exam_places.specs.Places.{edit_answer, places_of}
+use Rattle.office_output.specs.Writing.{WritesFront}
 use Rattle.office_check.specs.declared.listing.PlacesAnswer.{PlacesAnswer}
 use Rattle.office_check.specs.declared.listing.PlacesAnswer.TheVariants.{Listed, NoExam}
 use Rattle.office_reports.specs.PlaceList.{places_text}
@@ -24,6 +25,12 @@ pub record WritesPlaces (I : Session) (E : Enrolled) (T : Placing) (exam : ℕ)
   pub text : List ℕ
   pub lists : IsPlaceList I E T exam text
   pub written : Appends old new text
+
+-- a front of that list is written
+abbrev pub WritesPlacesFront : Session → Enrolled → Placing → ℕ → Option (List ℕ)
+    → Option (List ℕ) → Type 0
+WritesPlacesFront I E T exam old new =
+    (text : List ℕ) × IsPlaceList I E T exam text × WritesFront old new text
 
 -- the list is written; or the session has no such exam, and nothing is written
 abbrev pub AnswersPlaces : Session → Enrolled → Placing → ℕ → Option (List ℕ) → Option (List ℕ)

@@ -9,6 +9,7 @@ use Rattle.exam_score.specs.Penalty.{personal_total}
 use Rattle.exam_reasons.specs.Students.{OwnReasonsAddUp, own_reasons, own_share}
 use Rattle.exam_reasons.specs.declared.reasons.PairKind.{PairKind}
 use Rattle.exam_reasons.specs.declared.reasons.PairKind.TheVariants.{Day, Night, Row, Spread}
+use Rattle.office_output.specs.Writing.{WritesFront}
 use Rattle.office_check.specs.Check.{exit_status, report}
 use Rattle.office_check.specs.Why.{pair_line}
 
@@ -33,3 +34,8 @@ pub record IsExplainedTo (I : Session) (E : Enrolled) (T : Placing) (s : ℕ)
   pub written : Appends old new (report I E T ++ own_text I E T s)
   pub add_up : OwnReasonsAddUp I E T s
   pub status : answer ≡ exit_status I E T
+
+-- a front of the report, the student's summands and the whole share is written
+abbrev pub ExplainsFrontTo : Session → Enrolled → Placing → ℕ → Option (List ℕ)
+    → Option (List ℕ) → Type 0
+ExplainsFrontTo I E T s old new = WritesFront old new (report I E T ++ own_text I E T s)

@@ -13,6 +13,7 @@ use Rattle.exam_rules.specs.declared.breach.Breach.{Breach}
 use Rattle.exam_score.specs.Penalty.{total_of}
 use Rattle.exam_score.specs.Track.{track}
 use Rattle.office_files.specs.SolutionText.{SolutionText}
+use Rattle.office_output.specs.Writing.{WritesFront}
 use Rattle.office_reports.specs.Reports.{rule_name}
 use Rattle.office_check.specs.Check.{exit_status}
 use Rattle.office_check.specs.Names.{printed_name}
@@ -90,3 +91,9 @@ pub record WritesVerdict (I : Session) (E : Enrolled) (T : Placing) (path : List
   pub judged : IsVerdict I E T verdict
   pub written : Appends old new (json_line path verdict)
   pub status : answer ≡ exit_status I E T
+
+-- a front of that line is written
+abbrev pub WritesVerdictFront : Session → Enrolled → Placing → (path : List ℕ)
+    → (old new : Option (List ℕ)) → Type 0
+WritesVerdictFront I E T path old new =
+    (verdict : Verdict) × IsVerdict I E T verdict × WritesFront old new (json_line path verdict)

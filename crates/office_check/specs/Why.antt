@@ -16,6 +16,7 @@ use Rattle.exam_reasons.specs.declared.reasons.PairKind.{PairKind}
 use Rattle.exam_reasons.specs.declared.reasons.PairKind.TheVariants.{Day, Night, Row, Spread}
 use Rattle.exam_reasons.specs.declared.reasons.PairReason.{PairReason}
 use Rattle.exam_reasons.specs.declared.reasons.PlaceReason.{PlaceReason}
+use Rattle.office_output.specs.Writing.{WritesFront}
 use Rattle.office_check.specs.Check.{exit_status, report}
 use Rattle.office_check.specs.declared.explaining.Subject.{Subject}
 
@@ -74,6 +75,11 @@ pub record IsExplained (I : Session) (E : Enrolled) (T : Placing) (old new : Opt
   pub add_up : ReasonsAddUp I E T
   pub status : answer ≡ exit_status I E T
 
+-- a front of the report and all summands is written
+abbrev pub ExplainsFront : Session → Enrolled → Placing → Option (List ℕ) → Option (List ℕ)
+    → Type 0
+ExplainsFront I E T old new = WritesFront old new (report I E T ++ why_text I E T)
+
 -- ---- the buffer
 
 -- the parts of a timetable's judgement fit each other
@@ -87,3 +93,7 @@ pub record Adds (old new : Option (List ℕ)) (before after added : List ℕ) : 
   pub written : List ℕ
   pub appends : Appends old new written
   pub same : written ++ after ≡ before ++ added
+
+-- a front of what was in the buffer, and of a text behind it, is written
+pub record AddsFront (old new : Option (List ℕ)) (before added : List ℕ) : Type 0 where
+  pub front : WritesFront old new (before ++ added)

@@ -32,7 +32,7 @@ pub enum CheckFault {
     Instance(FileFault),
     /// The solution's text is faulty.
     Solution(FileFault),
-    /// The writer failed; it isn't known how much of the report was written.
+    /// The writer failed; a front of the output may be written.
     Write,
     /// Out of memory.
     NoMemory,
@@ -45,6 +45,10 @@ pub trait SolutionTask {
     // This is written, by what the writer had before and has now, and answered.
     ghost writes: { Self → Session → Enrolled → Placing → Option (List ℕ) → Option (List ℕ)
         → Self.Answer → Type 0 };
+
+    // A front of it is written, if a write failed.
+    ghost writes_front: { Self → Session → Enrolled → Placing → Option (List ℕ)
+        → Option (List ℕ) → Type 0 };
 
     /// Does the task. All memory is taken before the first byte is written.
     fn write<W: Write>(
@@ -61,7 +65,10 @@ pub trait SolutionTask {
         ensures faults { IfErr result (λ fault.
             (fault ≡ CheckFault.Write) ⊎ (fault ≡ CheckFault.NoMemory)) }
         ensures unwritten { IfErr result (λ fault. fault ≢ CheckFault.Write
-            → Keeps (W.contents writer.old) (W.contents writer.new)) };
+            → Keeps (W.contents writer.old) (W.contents writer.new)) }
+        ensures front { IfErr result (λ fault. fault ≡ CheckFault.Write
+            → writes_front self.now instance.now enrolments.now timetable.now
+            (W.contents writer.old) (W.contents writer.new)) };
 }
 
 /// Does the task on the solution of two readers. Each reader has 5,000,000 reads; an interrupted
@@ -94,6 +101,11 @@ pub fn task_run<K: SolutionTask, R: Read, Q: Read, W: Write>(
         IfSome (Q.remaining solution_reader.old) (λ solution. Refuses instance solution fault))) }
     ensures unwritten { IfErr result (λ fault. fault ≢ CheckFault.Write
         → Keeps (W.contents writer.old) (W.contents writer.new)) }
+    // If a write failed, a front of the output on the two texts is written.
+    ensures front { IfErr result (λ fault. fault ≡ CheckFault.Write
+        → OfInputs (R.remaining instance_reader.old) (Q.remaining solution_reader.old)
+        (λ session enrolled placing. K.writes_front task.now session enrolled placing
+        (W.contents writer.old) (W.contents writer.new))) }
 
     // Each reader is read at most one byte past its limit.
     ensures instance_taken { ReadsAtMost (INSTANCE_BYTES + 1)
@@ -120,6 +132,7 @@ pub(crate) fn files_of<R: Read, Q: Read>(
     ensures fits { IfOk result (λ read. Fits read.0 read.1 read.2) }
     ensures refused { IfErr result (λ fault. IfSome (R.remaining instance_reader.old) (λ instance.
         IfSome (Q.remaining solution_reader.old) (λ solution. Refuses instance solution fault))) }
+    ensures unwritten { IfErr result (λ fault. fault ≢ CheckFault.Write) }
     ensures instance_taken { ReadsAtMost (INSTANCE_BYTES + 1)
         (R.remaining instance_reader.old) (R.remaining instance_reader.new) }
     ensures solution_taken { ReadsAtMost (TEXT_BYTES + 1)

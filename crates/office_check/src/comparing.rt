@@ -1,5 +1,5 @@
 // Comparing two solutions of one session.
-ghost use Rattle.std.specs.Prelude.{◌≡◌, ◌≢◌, ◌+◌, ◌++◌, codes, length, string_bytes};
+ghost use Rattle.std.specs.Prelude.{◌≡◌, ◌≢◌, ◌+◌, ◌++◌, ℕ, List, codes, length, string_bytes};
 ghost use Rattle.std.specs.Prelude.{IfErr, IfOk, IfSome, OnOk};
 ghost use Rattle.std.specs.Io.KnownBytes.{Keeps};
 ghost use Rattle.std.specs.List.{flat_map};
@@ -8,6 +8,7 @@ ghost use Rattle.exam_model.specs.Fits.{Fits};
 ghost use Rattle.exam_changes.specs.Gained.{gained};
 ghost use Rattle.exam_changes.specs.Moves.{candidates_of, moves};
 ghost use Rattle.office_files.specs.Inputs.{ReadsAtMost};
+ghost use Rattle.office_output.specs.Writing.{WritesFront};
 ghost use Rattle.office_reports.specs.Reports.{number_line};
 ghost use Rattle.office_check.specs.Compare.{Compares, ComparesFrom, ComparesSome};
 ghost use Rattle.office_check.specs.Compare.{IsComparisonFrom, RefusesComparison, breaches_text};
@@ -20,6 +21,7 @@ use exam_model::{Enrolments, Instance, Place, Timetable};
 use exam_rules::breaches;
 use exam_score::{Parts, score};
 use office_files::{FileFault, InputFault};
+use office_output::write_text;
 use office_reports::violation_report;
 use std::alloc::{AllocError, Global};
 use std::io::{Read, Write};
@@ -67,6 +69,11 @@ pub fn compare_run<R: Read, P: Read, Q: Read, W: Write>(
         RefusesComparison instance before after fault)))) }
     ensures unwritten { IfErr result (λ fault. fault ≢ CompareFault.Check CheckFault.Write
         → Keeps (W.contents writer.old) (W.contents writer.new)) }
+    // If the comparison could not be written whole, a front of it was.
+    ensures front { IfErr result (λ fault. fault ≡ CompareFault.Check CheckFault.Write
+        → (text : List ℕ) × IsComparisonFrom (R.remaining instance_reader.old)
+        (P.remaining before_reader.old) (Q.remaining after_reader.old) text
+        × WritesFront (W.contents writer.old) (W.contents writer.new) text) }
 
     // Each reader is read at most one byte past its limit.
     ensures instance_taken { ReadsAtMost (INSTANCE_BYTES + 1)
@@ -77,7 +84,7 @@ pub fn compare_run<R: Read, P: Read, Q: Read, W: Write>(
         (Q.remaining after_reader.old) (Q.remaining after_reader.new) }
 {
     let text = comparison_of(alloc, instance_reader, before_reader, after_reader)?;
-    match writer.write_all(text.as_bytes()) {
+    match write_text(writer, text.as_bytes()) {
         Ok(()) => Ok(()),
         Err(_) => Err(CompareFault::Check(CheckFault::Write)),
     }
@@ -97,6 +104,7 @@ fn comparison_of<R: Read, P: Read, Q: Read>(
         IfSome (P.remaining before_reader.old) (λ before.
         IfSome (Q.remaining after_reader.old) (λ after.
         RefusesComparison instance before after fault)))) }
+    ensures unwritten { IfErr result (λ fault. fault ≢ CompareFault.Check CheckFault.Write) }
     ensures instance_taken { ReadsAtMost (INSTANCE_BYTES + 1)
         (R.remaining instance_reader.old) (R.remaining instance_reader.new) }
     ensures before_taken { ReadsAtMost (TEXT_BYTES + 1)

@@ -1,13 +1,14 @@
 // The report on one solution, and each summand of its penalty.
-ghost use Rattle.std.specs.Prelude.{◌≡◌, ◌<◌, ◌++◌, [], OnOk, codes, length, string_bytes};
+ghost use Rattle.std.specs.Prelude.{◌≡◌, ◌<◌, ◌++◌, [], OnErr, OnOk, codes, length, string_bytes};
 ghost use Rattle.std.specs.Io.KnownBytes.{Appends};
 ghost use Rattle.std.specs.List.{flat_map};
 ghost use Rattle.exam_reasons.specs.Lists.{listed};
 ghost use Rattle.exam_reasons.specs.Pairs.{IsCounted};
 ghost use Rattle.exam_reasons.specs.Reasons.{front_reason, front_reasons, mixed_reasons};
 ghost use Rattle.exam_reasons.specs.Reasons.{pair_reason, period_reason, period_reasons, room_reason, room_reasons};
-ghost use Rattle.office_check.specs.Why.{Adds, IsSubject, all_pairs_text, front_line, kind_name};
-ghost use Rattle.office_check.specs.Why.{mixed_line, pair_line, pairs_text, place_line, why_text};
+ghost use Rattle.office_output.specs.Writing.{WritesFront};
+ghost use Rattle.office_check.specs.Why.{Adds, AddsFront, IsSubject, all_pairs_text, front_line};
+ghost use Rattle.office_check.specs.Why.{kind_name, mixed_line, pair_line, pairs_text, place_line, why_text};
 
 use crate::checking::{CheckFault, SolutionTask};
 use crate::reporting::judge;
@@ -17,6 +18,7 @@ use exam_reasons::{
     mixed_reasons, pair_reason, period_reason, reasons_add_up, room_reason,
 };
 use exam_score::sizes_of;
+use office_output::write_text;
 use std::alloc::{AllocError, Global};
 use std::io::{self, Write};
 
@@ -34,10 +36,13 @@ pub struct Why;
 impl SolutionTask for Why {
     type Answer = u8;
 
-    ghost use Rattle.office_check.specs.Why.{IsExplained};
+    ghost use Rattle.office_check.specs.Why.{ExplainsFront, IsExplained};
 
     ghost writes = { λ _ session enrolled placing old new status.
         IsExplained session enrolled placing old new status };
+
+    ghost writes_front = { λ _ session enrolled placing old new.
+        ExplainsFront session enrolled placing old new };
 
     fn write<W: Write>(
         &self,
@@ -100,13 +105,16 @@ fn write_all<W: Write>(
     requires mixed { mixed.now
         ≡ mixed_reasons subject.now.instance.now subject.now.timetable.now }
     requires empty { string_bytes lines.old ≡ [] }
-    ensures { OnOk result (Appends (W.contents writer.old) (W.contents writer.new) (report.now
+    ensures ok { OnOk result (Appends (W.contents writer.old) (W.contents writer.new) (report.now
         ++ why_text subject.now.instance.now subject.now.enrolments.now
         subject.now.timetable.now)) }
+    ensures err { OnErr result (WritesFront (W.contents writer.old) (W.contents writer.new)
+        (report.now ++ why_text subject.now.instance.now subject.now.enrolments.now
+        subject.now.timetable.now)) }
 {
-    writer.write_all(report.as_bytes())?;
+    write_text(writer, report.as_bytes())?;
     add_all(writer, lines, subject, mixed)?;
-    writer.write_all(lines.as_bytes())?;
+    write_text(writer, lines.as_bytes())?;
     Ok(())
 }
 
@@ -120,9 +128,12 @@ fn add_all<W: Write>(
     requires subject { IsSubject subject.now }
     requires mixed { mixed.now
         ≡ mixed_reasons subject.now.instance.now subject.now.timetable.now }
-    ensures { OnOk result (Adds (W.contents writer.old) (W.contents writer.new)
+    ensures ok { OnOk result (Adds (W.contents writer.old) (W.contents writer.new)
         (string_bytes lines.old) (string_bytes lines.new)
         (why_text subject.now.instance.now subject.now.enrolments.now
+        subject.now.timetable.now)) }
+    ensures err { OnErr result (AddsFront (W.contents writer.old) (W.contents writer.new)
+        (string_bytes lines.old) (why_text subject.now.instance.now subject.now.enrolments.now
         subject.now.timetable.now)) }
 {
     add_all_pairs(writer, lines, subject)?;
@@ -140,9 +151,12 @@ pub(crate) fn add_all_pairs<W: Write>(
     subject: &Subject,
 ) -> io::Result<()>
     requires { IsSubject subject.now }
-    ensures { OnOk result (Adds (W.contents writer.old) (W.contents writer.new)
+    ensures ok { OnOk result (Adds (W.contents writer.old) (W.contents writer.new)
         (string_bytes lines.old) (string_bytes lines.new)
         (all_pairs_text subject.now.instance.now subject.now.enrolments.now
+        subject.now.timetable.now)) }
+    ensures err { OnErr result (AddsFront (W.contents writer.old) (W.contents writer.new)
+        (string_bytes lines.old) (all_pairs_text subject.now.instance.now subject.now.enrolments.now
         subject.now.timetable.now)) }
 {
     add_pairs(writer, lines, subject, PairKind::Row)?;
@@ -160,9 +174,12 @@ fn add_pairs<W: Write>(
     kind: PairKind,
 ) -> io::Result<()>
     requires { IsSubject subject.now }
-    ensures { OnOk result (Adds (W.contents writer.old) (W.contents writer.new)
+    ensures ok { OnOk result (Adds (W.contents writer.old) (W.contents writer.new)
         (string_bytes lines.old) (string_bytes lines.new)
         (pairs_text subject.now.instance.now subject.now.enrolments.now
+        subject.now.timetable.now kind)) }
+    ensures err { OnErr result (AddsFront (W.contents writer.old) (W.contents writer.new)
+        (string_bytes lines.old) (pairs_text subject.now.instance.now subject.now.enrolments.now
         subject.now.timetable.now kind)) }
 {
     for pair in subject.pairs {
@@ -181,8 +198,13 @@ fn add_pair<W: Write>(
 ) -> io::Result<()>
     requires subject { IsSubject subject.now }
     requires counted { IsCounted subject.now.enrolments.now pair.now }
-    ensures { OnOk result (Adds (W.contents writer.old) (W.contents writer.new)
+    ensures ok { OnOk result (Adds (W.contents writer.old) (W.contents writer.new)
         (string_bytes lines.old) (string_bytes lines.new)
+        (flat_map (pair_line kind) (listed (pair_reason subject.now.instance.now
+        subject.now.enrolments.now subject.now.timetable.now kind pair.now.exam
+        pair.now.other)))) }
+    ensures err { OnErr result (AddsFront (W.contents writer.old) (W.contents writer.new)
+        (string_bytes lines.old)
         (flat_map (pair_line kind) (listed (pair_reason subject.now.instance.now
         subject.now.enrolments.now subject.now.timetable.now kind pair.now.exam
         pair.now.other)))) }
@@ -199,8 +221,10 @@ fn add_pair<W: Write>(
 
 // Adds the lines of rooms and periods with mixed durations.
 fn add_mixed<W: Write>(writer: &mut W, lines: &mut String, mixed: &[MixedReason]) -> io::Result<()>
-    ensures { OnOk result (Adds (W.contents writer.old) (W.contents writer.new)
+    ensures ok { OnOk result (Adds (W.contents writer.old) (W.contents writer.new)
         (string_bytes lines.old) (string_bytes lines.new) (flat_map mixed_line mixed.now)) }
+    ensures err { OnErr result (AddsFront (W.contents writer.old) (W.contents writer.new)
+        (string_bytes lines.old) (flat_map mixed_line mixed.now)) }
 {
     for reason in mixed {
         make_room(writer, lines)?;
@@ -212,9 +236,12 @@ fn add_mixed<W: Write>(writer: &mut W, lines: &mut String, mixed: &[MixedReason]
 // Adds the lines of all exams of the front load.
 fn add_front<W: Write>(writer: &mut W, lines: &mut String, subject: &Subject) -> io::Result<()>
     requires { IsSubject subject.now }
-    ensures { OnOk result (Adds (W.contents writer.old) (W.contents writer.new)
+    ensures ok { OnOk result (Adds (W.contents writer.old) (W.contents writer.new)
         (string_bytes lines.old) (string_bytes lines.new)
         (flat_map front_line (front_reasons subject.now.instance.now
+        subject.now.enrolments.now subject.now.timetable.now))) }
+    ensures err { OnErr result (AddsFront (W.contents writer.old) (W.contents writer.new)
+        (string_bytes lines.old) (flat_map front_line (front_reasons subject.now.instance.now
         subject.now.enrolments.now subject.now.timetable.now))) }
 {
     for exam in 0..subject.instance.exams() {
@@ -232,9 +259,12 @@ fn add_front_of<W: Write>(
 ) -> io::Result<()>
     requires subject { IsSubject subject.now }
     requires exists { exam < length subject.now.enrolments.now }
-    ensures { OnOk result (Adds (W.contents writer.old) (W.contents writer.new)
+    ensures ok { OnOk result (Adds (W.contents writer.old) (W.contents writer.new)
         (string_bytes lines.old) (string_bytes lines.new)
         (flat_map front_line (listed (front_reason subject.now.instance.now
+        subject.now.enrolments.now subject.now.timetable.now exam)))) }
+    ensures err { OnErr result (AddsFront (W.contents writer.old) (W.contents writer.new)
+        (string_bytes lines.old) (flat_map front_line (listed (front_reason subject.now.instance.now
         subject.now.enrolments.now subject.now.timetable.now exam)))) }
 {
     let reason = front_reason(
@@ -256,9 +286,12 @@ fn add_front_of<W: Write>(
 // Adds the lines of all periods with a penalty.
 fn add_periods<W: Write>(writer: &mut W, lines: &mut String, subject: &Subject) -> io::Result<()>
     requires { IsSubject subject.now }
-    ensures { OnOk result (Adds (W.contents writer.old) (W.contents writer.new)
+    ensures ok { OnOk result (Adds (W.contents writer.old) (W.contents writer.new)
         (string_bytes lines.old) (string_bytes lines.new)
         (flat_map (place_line (codes "period"))
+        (period_reasons subject.now.instance.now subject.now.timetable.now))) }
+    ensures err { OnErr result (AddsFront (W.contents writer.old) (W.contents writer.new)
+        (string_bytes lines.old) (flat_map (place_line (codes "period"))
         (period_reasons subject.now.instance.now subject.now.timetable.now))) }
 {
     for period in 0..subject.instance.periods() {
@@ -276,8 +309,12 @@ fn add_period<W: Write>(
 ) -> io::Result<()>
     requires subject { IsSubject subject.now }
     requires exists { period < length subject.now.instance.now.periods }
-    ensures { OnOk result (Adds (W.contents writer.old) (W.contents writer.new)
+    ensures ok { OnOk result (Adds (W.contents writer.old) (W.contents writer.new)
         (string_bytes lines.old) (string_bytes lines.new)
+        (flat_map (place_line (codes "period")) (listed (period_reason subject.now.instance.now
+        subject.now.timetable.now period)))) }
+    ensures err { OnErr result (AddsFront (W.contents writer.old) (W.contents writer.new)
+        (string_bytes lines.old)
         (flat_map (place_line (codes "period")) (listed (period_reason subject.now.instance.now
         subject.now.timetable.now period)))) }
 {
@@ -293,9 +330,12 @@ fn add_period<W: Write>(
 // Adds the lines of all rooms with a penalty.
 fn add_rooms<W: Write>(writer: &mut W, lines: &mut String, subject: &Subject) -> io::Result<()>
     requires { IsSubject subject.now }
-    ensures { OnOk result (Adds (W.contents writer.old) (W.contents writer.new)
+    ensures ok { OnOk result (Adds (W.contents writer.old) (W.contents writer.new)
         (string_bytes lines.old) (string_bytes lines.new)
         (flat_map (place_line (codes "room"))
+        (room_reasons subject.now.instance.now subject.now.timetable.now))) }
+    ensures err { OnErr result (AddsFront (W.contents writer.old) (W.contents writer.new)
+        (string_bytes lines.old) (flat_map (place_line (codes "room"))
         (room_reasons subject.now.instance.now subject.now.timetable.now))) }
 {
     for room in 0..subject.instance.rooms() {
@@ -313,8 +353,12 @@ fn add_room<W: Write>(
 ) -> io::Result<()>
     requires subject { IsSubject subject.now }
     requires exists { room < length subject.now.instance.now.rooms }
-    ensures { OnOk result (Adds (W.contents writer.old) (W.contents writer.new)
+    ensures ok { OnOk result (Adds (W.contents writer.old) (W.contents writer.new)
         (string_bytes lines.old) (string_bytes lines.new)
+        (flat_map (place_line (codes "room")) (listed (room_reason subject.now.instance.now
+        subject.now.timetable.now room)))) }
+    ensures err { OnErr result (AddsFront (W.contents writer.old) (W.contents writer.new)
+        (string_bytes lines.old)
         (flat_map (place_line (codes "room")) (listed (room_reason subject.now.instance.now
         subject.now.timetable.now room)))) }
 {
@@ -329,11 +373,13 @@ fn add_room<W: Write>(
 
 // Writes the lines that are held back, if they are many.
 fn make_room<W: Write>(writer: &mut W, lines: &mut String) -> io::Result<()>
-    ensures { OnOk result (Adds (W.contents writer.old) (W.contents writer.new)
+    ensures ok { OnOk result (Adds (W.contents writer.old) (W.contents writer.new)
         (string_bytes lines.old) (string_bytes lines.new) []) }
+    ensures err { OnErr result (WritesFront (W.contents writer.old) (W.contents writer.new)
+        (string_bytes lines.old)) }
 {
     if lines.len() >= FULL {
-        writer.write_all(lines.as_bytes())?;
+        write_text(writer, lines.as_bytes())?;
         lines.clear();
     }
     Ok(())

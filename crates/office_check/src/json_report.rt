@@ -4,6 +4,7 @@ ghost use Rattle.std.specs.Prelude.{◌≡◌, IfOk};
 use crate::checking::{CheckFault, SolutionTask};
 use crate::judging::{LineForm, verdict_on};
 use exam_model::{Enrolments, Instance, Timetable};
+use office_output::write_text;
 use std::alloc::Global;
 use std::io::Write;
 
@@ -16,10 +17,13 @@ pub struct JsonReport<'a> {
 impl SolutionTask for JsonReport<'_> {
     type Answer = u8;
 
-    ghost use Rattle.office_check.specs.Verdicts.{WritesVerdict};
+    ghost use Rattle.office_check.specs.Verdicts.{WritesVerdict, WritesVerdictFront};
 
     ghost writes = { λ task session enrolled placing old new status.
         WritesVerdict session enrolled placing task.path.now old new status };
+
+    ghost writes_front = { λ task session enrolled placing old new.
+        WritesVerdictFront session enrolled placing task.path.now old new };
 
     fn write<W: Write>(
         &self,
@@ -35,7 +39,7 @@ impl SolutionTask for JsonReport<'_> {
         let Ok(line) = verdict.line(alloc, self.path, LineForm::Json) else {
             return Err(CheckFault::NoMemory);
         };
-        match writer.write_all(line.as_bytes()) {
+        match write_text(writer, line.as_bytes()) {
             Ok(()) => Ok(verdict.status()),
             Err(_) => Err(CheckFault::Write),
         }

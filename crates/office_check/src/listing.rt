@@ -7,6 +7,7 @@ use crate::checking::{CheckFault, SolutionTask};
 use exam_model::{Enrolments, ExamNo, Instance, Timetable};
 use exam_places::places;
 use exam_score::score;
+use office_output::write_text;
 use office_reports::places_report;
 use std::alloc::{AllocError, Global};
 use std::io::Write;
@@ -28,10 +29,13 @@ pub enum PlacesAnswer {
 impl SolutionTask for Places {
     type Answer = PlacesAnswer;
 
-    ghost use Rattle.office_check.specs.Listing.{AnswersPlaces};
+    ghost use Rattle.office_check.specs.Listing.{AnswersPlaces, WritesPlacesFront};
 
     ghost writes = { λ task session enrolled placing old new answer.
         AnswersPlaces session enrolled placing task.0 old new answer };
+
+    ghost writes_front = { λ task session enrolled placing old new.
+        WritesPlacesFront session enrolled placing task.0 old new };
 
     fn write<W: Write>(
         &self,
@@ -48,7 +52,7 @@ impl SolutionTask for Places {
         let Ok(text) = place_list(alloc, instance, enrolments, timetable, exam) else {
             return Err(CheckFault::NoMemory);
         };
-        match writer.write_all(text.as_bytes()) {
+        match write_text(writer, text.as_bytes()) {
             Ok(()) => Ok(PlacesAnswer::Listed),
             Err(_) => Err(CheckFault::Write),
         }

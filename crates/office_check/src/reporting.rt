@@ -4,14 +4,15 @@ ghost use Rattle.std.specs.Io.KnownBytes.{Keeps};
 ghost use Rattle.exam_terms.specs.declared.limits.TheConstants.{INSTANCE_BYTES, TEXT_BYTES};
 ghost use Rattle.exam_model.specs.Fits.{Fits};
 ghost use Rattle.office_files.specs.Inputs.{ReadsAtMost};
-ghost use Rattle.office_check.specs.Check.{IsReported, OfInputs, OfTexts, WritesReport, exit_status};
-ghost use Rattle.office_check.specs.Check.{report};
+ghost use Rattle.office_check.specs.Check.{IsReported, OfInputs, OfTexts, ReportsFront};
+ghost use Rattle.office_check.specs.Check.{WritesReport, exit_status, report};
 ghost use Rattle.office_check.specs.Refusing.{Refuses};
 
 use crate::checking::{CheckFault, SolutionTask, task_run};
 use exam_model::{Enrolments, Instance, Timetable};
 use exam_rules::breaches;
 use exam_score::score;
+use office_output::write_text;
 use office_reports::{penalty_report, violation_report};
 use std::alloc::{AllocError, Global};
 use std::io::{Read, Write};
@@ -24,10 +25,13 @@ pub struct Report;
 impl SolutionTask for Report {
     type Answer = u8;
 
-    ghost use Rattle.office_check.specs.Check.{IsReported};
+    ghost use Rattle.office_check.specs.Check.{IsReported, ReportsFront};
 
     ghost writes = { λ _ session enrolled placing old new status.
         IsReported session enrolled placing old new status };
+
+    ghost writes_front = { λ _ session enrolled placing old new.
+        ReportsFront session enrolled placing old new };
 
     fn write<W: Write>(
         &self,
@@ -40,7 +44,7 @@ impl SolutionTask for Report {
         let Ok(judged) = judge(alloc, instance, enrolments, timetable) else {
             return Err(CheckFault::NoMemory);
         };
-        match writer.write_all(judged.text.as_bytes()) {
+        match write_text(writer, judged.text.as_bytes()) {
             Ok(()) => Ok(judged.status),
             Err(_) => Err(CheckFault::Write),
         }
@@ -75,6 +79,11 @@ pub fn check_run<R: Read, Q: Read, W: Write>(
         IfSome (Q.remaining solution_reader.old) (λ solution. Refuses instance solution fault))) }
     ensures unwritten { IfErr result (λ fault. fault ≢ CheckFault.Write
         → Keeps (W.contents writer.old) (W.contents writer.new)) }
+    // If the report could not be written whole, a front of it was.
+    ensures front { IfErr result (λ fault. fault ≡ CheckFault.Write
+        → OfInputs (R.remaining instance_reader.old) (Q.remaining solution_reader.old)
+        (λ session enrolled placing. ReportsFront session enrolled placing
+        (W.contents writer.old) (W.contents writer.new))) }
 
     // Each reader is read at most one byte past its limit.
     ensures instance_taken { ReadsAtMost (INSTANCE_BYTES + 1)

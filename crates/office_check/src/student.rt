@@ -1,7 +1,8 @@
 // The report on one solution, and the summands of one student.
-ghost use Rattle.std.specs.Prelude.{◌≡◌, ◌++◌, [], OnOk, string_bytes};
+ghost use Rattle.std.specs.Prelude.{◌≡◌, ◌++◌, [], OnErr, OnOk, string_bytes};
 ghost use Rattle.std.specs.Io.KnownBytes.{Appends};
 ghost use Rattle.exam_score.specs.Penalty.{pairs_in, personal_total};
+ghost use Rattle.office_output.specs.Writing.{WritesFront};
 ghost use Rattle.office_check.specs.Student.{sum_line};
 ghost use Rattle.office_check.specs.Why.{IsSubject, all_pairs_text};
 
@@ -11,6 +12,7 @@ use crate::reporting::judge;
 use exam_model::{Enrolments, Instance, StudentNo, Timetable};
 use exam_reasons::{costly_pairs, own_enrolments, own_reasons_add_up};
 use exam_score::{Parts, score, sizes_of};
+use office_output::write_text;
 use std::alloc::{AllocError, Global};
 use std::io::{self, Write};
 
@@ -22,10 +24,13 @@ pub struct WhyFor(pub StudentNo);
 impl SolutionTask for WhyFor {
     type Answer = u8;
 
-    ghost use Rattle.office_check.specs.Student.{IsExplainedTo};
+    ghost use Rattle.office_check.specs.Student.{ExplainsFrontTo, IsExplainedTo};
 
     ghost writes = { λ task session enrolled placing old new status.
         IsExplainedTo session enrolled placing task.0 old new status };
+
+    ghost writes_front = { λ task session enrolled placing old new.
+        ExplainsFrontTo session enrolled placing task.0 old new };
 
     fn write<W: Write>(
         &self,
@@ -99,14 +104,17 @@ fn write_own<W: Write>(
 ) -> io::Result<()>
     requires subject { IsSubject subject.now }
     requires empty { string_bytes lines.old ≡ [] }
-    ensures { OnOk result (Appends (W.contents writer.old) (W.contents writer.new) (report.now
+    ensures ok { OnOk result (Appends (W.contents writer.old) (W.contents writer.new) (report.now
         ++ all_pairs_text subject.now.instance.now subject.now.enrolments.now
         subject.now.timetable.now ++ sum_line sum.student sum.points)) }
+    ensures err { OnErr result (WritesFront (W.contents writer.old) (W.contents writer.new)
+        (report.now ++ all_pairs_text subject.now.instance.now subject.now.enrolments.now
+        subject.now.timetable.now ++ sum_line sum.student sum.points)) }
 {
-    writer.write_all(report.as_bytes())?;
+    write_text(writer, report.as_bytes())?;
     add_all_pairs(writer, lines, subject)?;
     add_sum_line(lines, sum)?;
-    writer.write_all(lines.as_bytes())?;
+    write_text(writer, lines.as_bytes())?;
     Ok(())
 }
 

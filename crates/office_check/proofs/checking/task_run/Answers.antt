@@ -22,3 +22,11 @@ returns-in_err-answer-clause-refused g c =
     c.from_residual-in_err-answer.ensures.1 in
     rw (fault.1, fault.2)
     (refused_late _ _ _ _ _ _ c.in_ok-instance.ensures.reading c.in_err-answer.ensures.faults)
+
+-- a write failed
+pub returns-in_err-answer-clause-front : goal.returns-in_err-answer-clause-front
+returns-in_err-answer-clause-front g c =
+    let fault = err_from_is_err_and c.from_residual-in_err-answer.result
+    c.from_residual-in_err-answer.ensures.1 in
+    rw (fault.1, fault.2)
+    (λ is. of_inputs _ _ _ _ _ _ c.in_ok-instance.ensures.from (c.in_err-answer.ensures.front is))

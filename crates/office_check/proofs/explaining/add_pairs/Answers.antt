@@ -6,8 +6,9 @@ use Rattle.exam_model.specs.declared.conflicts.Conflict.{Conflict}
 use Rattle.exam_reasons.specs.Lists.{listed}
 use Rattle.exam_reasons.specs.Pairs.{IsCounted}
 use Rattle.exam_reasons.specs.Reasons.{pair_reason}
-use Rattle.office_check.specs.Why.{pair_line}
-use Rattle.office_check.proofs.WhyFacts.{adds_next, adds_text, lines_of_pairs}
+use Rattle.office_check.specs.Why.{AddsFront, pair_line}
+use Rattle.exam_lists.proofs.Results.{OnErr_any}
+use Rattle.office_check.proofs.WhyFacts.{adds_next, adds_text, front_among, lines_of_pairs}
 use Rattle.office_check.proofs.explaining.add_pairs.Goals as goal
 
 -- the students of each pair are counted
@@ -25,11 +26,11 @@ loop-pair-preserved g c =
     (λ x. flat_map (pair_line c.args.kind) (listed (pair_reason c.args.subject.now.instance.now
     c.args.subject.now.enrolments.now c.args.subject.now.timetable.now c.args.kind x.exam x.other)))
     c.args.subject.now.pairs.now c.loop-pair.pair-index c.pair-item.result _ _ _ _ _ _
-    c.loop-pair-test.true c.pair-item.is c.loop-pair.invariant c.in_ok-add_pair.ensures
+    c.loop-pair-test.true c.pair-item.is c.loop-pair.invariant c.in_ok-add_pair.ensures.ok
 
 -- all pairs
-pub returns : goal.returns
-returns g c =
+pub returns-clause-ok : goal.returns-clause-ok
+returns-clause-ok g c =
     let kind = c.args.kind in
     let pairs = c.args.subject.now.pairs.now in
     let reasons = λ (x : Conflict). listed (pair_reason c.args.subject.now.instance.now
@@ -39,3 +40,17 @@ returns g c =
     (take_all c.loop-pair.pair-index pairs c.loop-pair-test.false)
     ∙ lines_of_pairs kind reasons pairs
     ∙ ap (flat_map (pair_line kind)) (c.requires.pairs.reasons kind)) c.loop-pair.invariant
+
+-- a front of the lines of all pairs
+pub returns-in_err-add_pair-clause-err : goal.returns-in_err-add_pair-clause-err
+returns-in_err-add_pair-clause-err g c =
+    let kind = c.args.kind in
+    let pairs = c.args.subject.now.pairs.now in
+    let reasons = λ (x : Conflict). listed (pair_reason c.args.subject.now.instance.now
+    c.args.subject.now.enrolments.now c.args.subject.now.timetable.now kind x.exam x.other) in
+    OnErr_any _ (subst (AddsFront _ _ _)
+    (lines_of_pairs kind reasons pairs
+    ∙ ap (flat_map (pair_line kind)) (c.requires.pairs.reasons kind))
+    (front_among (λ x. flat_map (pair_line kind) (reasons x)) pairs c.loop-pair.pair-index
+    c.pair-item.result _ _ _ _ _ c.loop-pair-test.true c.pair-item.is c.loop-pair.invariant
+    c.in_err-add_pair.ensures.err))

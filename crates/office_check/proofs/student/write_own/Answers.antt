@@ -1,11 +1,39 @@
 use Rattle.std.proofs.Common.{subst}
 use Rattle.std.specs.Io.KnownBytes.{Appends}
-use Rattle.office_check.proofs.WhyFacts.{own_written}
+use Rattle.office_output.specs.Writing.{WritesFront}
+use Rattle.office_output.proofs.FrontLemmas.{front_first, front_none}
+use Rattle.exam_lists.proofs.Results.{OnErr_any}
+use Rattle.office_check.proofs.WhyFacts.{front_flushed, front_reported, own_flushed, own_written}
 use Rattle.office_check.proofs.student.write_own.Goals as goal
 
-pub returns : goal.returns
-returns g c =
+pub returns-clause-ok : goal.returns-clause-ok
+returns-clause-ok g c =
     own_written _ _ _ _ _ _ _ _ _ _ c.requires.empty
-    (subst (Appends _ _) c.as_bytes.ensures.value c.in_ok-write_all.ensures.bytes)
-    c.in_ok-add_all_pairs.ensures c.in_ok-add_sum_line.ensures
-    (subst (Appends _ _) c.as_bytes-2.ensures.value c.in_ok-write_all-2.ensures.bytes)
+    (subst (Appends _ _) c.as_bytes.ensures.value c.in_ok-write_text.ensures.ok)
+    c.in_ok-add_all_pairs.ensures.ok c.in_ok-add_sum_line.ensures
+    (subst (Appends _ _) c.as_bytes-2.ensures.value c.in_ok-write_text-2.ensures.ok)
+
+-- a front of the report, or the report and a front of the lines
+pub returns-in_err-write_text-clause-err : goal.returns-in_err-write_text-clause-err
+returns-in_err-write_text-clause-err g c =
+    OnErr_any _ (front_first _ _ _ _ (front_first _ _ _ _
+    (subst (WritesFront _ _) c.as_bytes.ensures.value c.in_err-write_text.ensures.err)))
+
+pub returns-in_err-add_all_pairs-clause-err : goal.returns-in_err-add_all_pairs-clause-err
+returns-in_err-add_all_pairs-clause-err g c =
+    OnErr_any _ (front_first _ _ _ _ (front_reported _ _ _ _ _ _ c.requires.empty
+    (subst (Appends _ _) c.as_bytes.ensures.value c.in_ok-write_text.ensures.ok)
+    c.in_err-add_all_pairs.ensures.err))
+
+pub returns-in_err-add_sum_line-clause-err : goal.returns-in_err-add_sum_line-clause-err
+returns-in_err-add_sum_line-clause-err g c =
+    OnErr_any _ (front_first _ _ _ _ (front_flushed _ _ _ _ _ _ _ _ c.requires.empty
+    (subst (Appends _ _) c.as_bytes.ensures.value c.in_ok-write_text.ensures.ok)
+    c.in_ok-add_all_pairs.ensures.ok (front_none _ _)))
+
+pub returns-in_err-write_text-2-clause-err : goal.returns-in_err-write_text-2-clause-err
+returns-in_err-write_text-2-clause-err g c =
+    OnErr_any _ (own_flushed _ _ _ _ _ _ _ _ _ _ c.requires.empty
+    (subst (Appends _ _) c.as_bytes.ensures.value c.in_ok-write_text.ensures.ok)
+    c.in_ok-add_all_pairs.ensures.ok c.in_ok-add_sum_line.ensures
+    (subst (WritesFront _ _) c.as_bytes-2.ensures.value c.in_err-write_text-2.ensures.err))
