@@ -200,7 +200,8 @@ LABELS = [
      told_error(405, "method")),
     ("the folder of labels", ask("registry", "GET", "/labels/"), 404),
     *((f"who {user} is", ask(user, "GET", "/-/user"),
-       (200, b'{"caller":"%s","sign_out":""}' % caller)) for user, caller in (
+       (200, b'{"caller":"%s","sign_out":"","user":"%s"}' % (caller, user.encode())))
+      for user, caller in (
            ("registry", b"office"), ("physics", b"dept:3"), ("ada", b"cand:1"), ("nobody", b""))),
 ]
 # Files of people for tools/users_from_csv that are faulty, and what is printed.

@@ -132,7 +132,8 @@ def isolation(run, both):
     status, page = both.ask(f"{SESSIONS[0]}1", SESSIONS[1], "/", "text/html")
     run.judge("the page for somebody of another session", (400, True),
               (status, b"is not linked to" in page))
-    run.judge("who they are there", (200, b'{"caller":"","sign_out":"/-/sign-out"}'),
+    run.judge("who they are there", (200, b'{"caller":"","sign_out":"/-/sign-out","user":"%s"}' % (
+        f"{SESSIONS[0]}1".encode())),
               both.ask(f"{SESSIONS[0]}1", SESSIONS[1], "/-/user"))
 
 

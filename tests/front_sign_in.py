@@ -168,7 +168,7 @@ def sessions(run, stack):
               tuple(sorted(part for part in text.split("; ")[1:] if not part.startswith("Expires"))
                     for text in (session, device)))
     run.judge("a session", FIRST_VIEW, ada.view())
-    run.judge("who it is", (200, b'{"caller":"cand:1","sign_out":"/-/sign-out"}'),
+    run.judge("who it is", (200, b'{"caller":"cand:1","sign_out":"/-/sign-out","user":"ada"}'),
               ada.view("/-/user"))
     run.judge("X-Caller beside it", FIRST_VIEW,
               ada.ask("GET", "/me", X_Caller="office", X_Auth_Request_User="registry")[::2])
@@ -954,7 +954,8 @@ def over_tls(run, make_front):
         run.judge("cookies over https", (["__Host-session", "__Secure-device"], True),
                   ([text.partition("=")[0] for text in cookies],
                    all("; Secure" in text and "; HttpOnly" in text for text in cookies)))
-        run.judge("a session over https", '{"caller":"cand:1","sign_out":"/-/sign-out"}',
+        run.judge("a session over https",
+                  '{"caller":"cand:1","sign_out":"/-/sign-out","user":"ada"}',
                   asks(f"https://127.0.0.1:{port}/-/user"))
         run.judge("versions of TLS", {"1.1": "000", "1.2": "200", "1.3": "200"}, {
             version: asks("-o", folder / "style", "-w", "%{http_code}", f"--tlsv{version}",

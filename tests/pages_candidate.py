@@ -67,7 +67,8 @@ def calendar_file(run, chromium, wide):
         "END:VCALENDAR", ""], [line for line in lines if not line.startswith("DTSTAMP")])
     with opened(run, chromium, wide, "ben") as page:
         page.judge("a candidate without exams", {
-            "#status": "You are not enrolled in any exam.", "hidden #calendar": True})
+            "#status": "You are not enrolled in any exam.", "hidden #calendar": True,
+            "#user": "Signed in as ben"})
 
 
 def states_of_exams(run, chromium, front):

@@ -532,7 +532,7 @@ def single_sign_on(run, front):
             ("students for a candidate", "/labels/students.json", [ada],
              told_error(403, "forbidden", rule="P2")),
             ("who it is", "/-/user", [ada],
-             (200, b'{"caller":"cand:1","sign_out":"/oauth2/sign_out"}'))):
+             (200, b'{"caller":"cand:1","sign_out":"/oauth2/sign_out","user":"ada"}'))):
         run.judge(f"single sign-on: {name}", answer, told(path, *fields))
     for user in ("registry", "physics"):
         asked = statuses(front, message("GET", "/drafts/1/exams/3/places", caller=None, fields=[

@@ -72,9 +72,11 @@ async function signOut(path) {
   window.location.replace('/signed-out.html');
 }
 
-/** Shows the button that signs out, if the front has one; returns who the reader is to the office. */
+/** Shows who is signed in, and the button that signs out, if the front has one; returns who the reader is to
+ * the office. */
 export async function readUser() {
   const user = await ask('/-/user');
+  byId('user').textContent = user.user ? `Signed in as ${user.user}` : '';
   byId('sign-out').hidden = !user.sign_out;
   byId('sign-out').onclick = () => signOut(user.sign_out);
   return user.caller;
