@@ -54,7 +54,8 @@ class Service:
     def start(self):
         with (self.folder / "errors").open("ab") as errors:
             self.process = subprocess.Popen(
-                [GUNICORN, "--workers", "1", "--threads", "8", "--bind", f"unix:{self.socket}",
+                [GUNICORN, "--workers", "1", "--threads", "8", "--limit-request-line", "8190",
+                 "--bind", f"unix:{self.socket}",
                  "--chdir", TOP / "tools", "--graceful-timeout", "2", "registry.service:app"],
                 env=self.environment, stdin=subprocess.DEVNULL, stdout=errors, stderr=errors)
         browser.until_or_ended(self.process, "the service runs",
@@ -169,6 +170,31 @@ def strangers(run, stack):
     run.judge("the names of its sessions, for others", (200, 401), tuple(
         Client(stack.front, host="other.session").ask("GET", "/instance", **fields)[0]
         for fields in ({"Authorization": f"Bearer {stack.token}"}, {})))
+
+
+def odd_questions(run, stack):
+    """Whatever the office asks the service, the reply is JSON in the office's words."""
+    office, half = signed_in(stack, "registry"), json.dumps([{"student": "\ud800", "name": "x"}])
+    head = "student,exam,action\n"
+    for method, path, body, status, error in (
+            ("PUT", f"batches/{'9' * 25}", f"{head}1,0,add\n", 404, "path"),
+            ("PUT", f"batches/{'9' * 5_000}", f"{head}1,0,add\n", 400, "request"),
+            ("GET", f"batches/{'9' * 25}", None, 404, "path"),
+            ("GET", f"publications/{'9' * 25}", None, 404, "path"),
+            ("GET", f"publications/{'9' * 5_000}", None, 400, "request"),
+            ("GET", f"lists/{'9' * 25}/x.pdf", None, 404, "path"),
+            ("GET", f"differences?from={'9' * 25}&to=1", None, 404, "publication"),
+            ("PUT", "batches/1", "", 400, "file"), ("PUT", "batches/1", head * 2, 400, "file"),
+            ("PUT", "batches/1", f"{head}{'9' * 25},0,add\n", 400, "file"),
+            ("POST", "breaches", "", 400, "body"), ("POST", "students", "[" * 100_000, 400, "body"),
+            ("POST", "students", half, 400, "body"), ("POST", "students", "", 400, "body"),
+            ("POST", "lists", "[" * 100_000, 400, "body"), ("POST", "lists", "", 400, "body"),
+            ("GET", "lists/1/..%2f", None, 404, "path"), ("GET", "lists/1/x", None, 404, "lists"),
+            ("GET", "nothing", None, 404, "path"), ("GET", "%ff%fe", None, 404, "path"),
+            ("DELETE", "batches/1", None, 405, "method"), ("GET", "students", None, 405, "method")):
+        run.judge(f"{method} {path[:30]} {(body or '')[:30]!r}", (status, error), (
+            (came := asked(office, method, path, body))[0],
+            came[1]["error"] if isinstance(came[1], dict) else came[1]))
 
 
 def batches(run, stack):
@@ -1079,7 +1105,8 @@ def judge_stack(run, make_front):
     stack = Stack(run, make_front, "registry")
     try:
         published_first(run, stack)
-        for part in (strangers, history, lists, batches, new_students, at_once, older_ledger):
+        for part in (strangers, odd_questions, history, lists, batches, new_students, at_once,
+                     older_ledger):
             part(run, stack)
     finally:
         stack.stop()

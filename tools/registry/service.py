@@ -16,6 +16,7 @@ EXAMOFFICE is the program, by default examoffice.
 from __future__ import annotations
 
 import contextlib
+import functools
 import hashlib
 import json
 import os
@@ -28,6 +29,8 @@ from collections.abc import Iterator
 from typing import Any
 
 import flask
+import werkzeug.exceptions
+import werkzeug.routing
 
 from .changes import LIST, MARK, PAGE, Change, add_batch, forget_unsent
 from .csv_tables import Faults, Known, Row, first_lines
@@ -63,7 +66,14 @@ NUMBER = re.compile("[0-9]{1,9}")
 LINE = re.compile(r"0*([0-9]{1,9}),0*([0-9]{1,9}),(add|drop)")
 MOST_NEW, LONGEST = 100_000, 254
 
+# What is said of a request that no function answers.
+WORDS = {400: "request", 404: "path", 405: "method", 413: "length"}
+
+
 app = flask.Flask(__name__, static_folder=None)
+# SQLite has no numbers of twenty digits.
+app.url_map.converters["int"] = functools.partial(
+    werkzeug.routing.IntegerConverter, max=999_999_999)
 
 
 # ---- Who asks, and which session it is
@@ -139,12 +149,29 @@ def refused(refusal: Refused) -> flask.Response | tuple[dict[str, Any], int]:
     return {"error": "unavailable"}, 503
 
 
-@app.errorhandler(OSError)
-@app.errorhandler(sqlite3.Error)
+@app.errorhandler(werkzeug.exceptions.HTTPException)
+def unanswered(fault: werkzeug.exceptions.HTTPException
+               ) -> tuple[dict[str, Any], int, dict[str, str]]:
+    """An odd path, method or length."""
+    status = fault.code if fault.code in WORDS else 400
+    methods = getattr(fault, "valid_methods", None)
+    allow = {"Allow": ", ".join(sorted({*methods} - {"OPTIONS"}))} if methods else {}
+    return {"error": WORDS[status or 400]}, status or 400, allow
+
+
+@app.errorhandler(Exception)
 def broken(_: Exception) -> tuple[dict[str, Any], int]:
     """A disk that is full, a ledger that may not be read, or a program that doesn't run."""
     app.logger.exception("the registry's service")
     return {"error": "unavailable"}, 503
+
+
+def json_asked() -> Any:
+    """The JSON of the body; None if it is none, or nested as no page nests it."""
+    try:
+        return flask.request.get_json(force=True, silent=True)
+    except RecursionError:
+        return None
 
 
 @app.get("/-/registry/about")
@@ -236,7 +263,7 @@ def owners() -> tuple[dict[str, Any], int]:
 
 def lines_in(body: bytes) -> list[Change] | None:
     """The lines of a batch that are put as the page and the tools put them, or None."""
-    head, *lines = body.decode("utf-8-sig", "replace").replace(" ", "").splitlines()
+    head, *lines = body.decode("utf-8-sig", "replace").replace(" ", "").splitlines() or [""]
     if head != "student,exam,action":
         return None
     found = [LINE.fullmatch(line) for line in lines if line]
@@ -443,7 +470,7 @@ jobs = Jobs()
 @app.post("/-/registry/lists")
 def make_lists() -> tuple[dict[str, Any], int]:
     """Begins to make lists."""
-    wanted = wanted_in(flask.request.get_json(force=True, silent=True))
+    wanted = wanted_in(json_asked())
     if wanted is None:
         return {"error": "body"}, 400
     with reading():
@@ -564,7 +591,7 @@ for looking in (watch, compare_all):
 @app.post("/-/registry/students")
 def students() -> tuple[dict[str, Any], int]:
     """Gives new students their numbers; one who is known already has one."""
-    faults, given = Faults(), people_in(flask.request.get_json(force=True, silent=True))
+    faults, given = Faults(), people_in(json_asked())
     if given is None:
         return {"error": "body"}, 400
     rows = [Row("students", place, person, faults) for place, person in enumerate(given, 1)]
@@ -587,6 +614,11 @@ def students() -> tuple[dict[str, Any], int]:
     return {"numbers": numbers}, 200
 
 
+def is_whole(text: str) -> bool:
+    """Whether a text can be kept: JSON can have half a character."""
+    return text == text.encode(errors="ignore").decode()
+
+
 def people_in(body: Any) -> list[dict[str, str]] | None:
     """The students of a body: a list of objects with `student` and `name`."""
     if not isinstance(body, list) or len(body) > MOST_NEW:
@@ -594,7 +626,8 @@ def people_in(body: Any) -> list[dict[str, str]] | None:
     people = []
     for one in body:
         texts = [one.get("student"), one.get("name", "")] if isinstance(one, dict) else [None]
-        if not all(isinstance(text, str) and len(text) <= LONGEST for text in texts):
+        if not all(isinstance(text, str) and len(text) <= LONGEST and is_whole(text)
+                   for text in texts):
             return None
         people.append({"student": texts[0].strip(), "name": texts[1].strip()})
     return people
