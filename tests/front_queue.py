@@ -108,18 +108,23 @@ class RestartingOffice:
         self.words = [program, "serve", "--db", str(database), "--port", str(port),
                       "--connections", str(connections)]
         self.is_over, self.starts, self.moment = threading.Event(), 0, moment
+        # How long it was away, at most.
+        self.away = 0
         self.process = None
         self.thread = threading.Thread(target=self.runs)
         self.thread.start()
         browser.until("the office listens", lambda: self.starts)
 
     def runs(self):
+        ended = None
         while not self.is_over.is_set():
             self.process = subprocess.Popen(self.words, stdin=subprocess.DEVNULL,
                                             stdout=subprocess.PIPE, stderr=subprocess.DEVNULL)
             if self.process.stdout.readline():
+                self.away = max(self.away, time.monotonic() - ended if ended else 0)
                 self.starts += 1
             self.process.wait()
+            ended = time.monotonic()
             self.process.stdout.close()
             self.is_over.wait(self.moment)
 
@@ -283,6 +288,7 @@ def upgrades(run, make_front):
     front = make_front(apart.folder, queue.address)
     try:
         clients = Clients(front, ask("registry", "GET", "/instance"), 12, 600)
+        changing = Clients(front, ask("registry", "PUT", "/exams/1/owner", b'{"dept":3}'), 2, 600)
         for starts in (1, 2, 3):
             browser.until("the office answers", lambda starts=starts: office.starts == starts)
             queue.reload()
@@ -291,9 +297,12 @@ def upgrades(run, make_front):
             # Again, while the office is away.
             queue.reload()
         browser.until("the office answers", lambda: office.starts == 4)
-        clients.end = time.monotonic() + 1
-        statuses = clients.result()
+        clients.end = changing.end = time.monotonic() + 1
+        statuses, changed = clients.result(), changing.result()
         run.judge("questions beside upgrades", ({200}, True), (set(statuses), statuses[200] > 20))
+        # HAProxy's workers of before and after may each have sent one when the office ended.
+        run.judge("changes beside upgrades", (set(), True, True), (
+            set(changed) - {200, 503}, changed[200] > 5, changed[503] <= 2 * 3))
         office.stop()
         queue.limits.write_text("global\n    setenv OFFICE_WAIT 2\n")
         queue.reload()

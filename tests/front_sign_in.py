@@ -86,6 +86,10 @@ class SignInQueue(front_queue.Queue):
         super().start(TOP / "front" / "sign_in.cfg", *more)
 
 
+class ReloadedQueue(SignInQueue, front_queue.ReloadedQueue):
+    """The same, which can be reloaded."""
+
+
 class Client:
     """A browser without pages: an address, its cookies, and the replies to it."""
 
@@ -124,7 +128,8 @@ class Client:
 class Stack:
     """Front, queue, agent and office. If one of them doesn't start, the others are stopped."""
 
-    def __init__(self, run, make_front, name, edits=(), sign_in="sign_in.conf", **office):
+    def __init__(self, run, make_front, name, edits=(), sign_in="sign_in.conf",
+                 make_queue=SignInQueue, **office):
         self.run = Run.apart(run.program, run.folder, "front", name)
         self.key = secrets.token_hex(32)
         with contextlib.ExitStack() as begun:
@@ -134,7 +139,7 @@ class Stack:
             shutil.copytree(TOP / "front", folder)
             self.agent = Agent(self.run.folder, folder, self.key)
             begun.callback(self.agent.stop)
-            self.queue = SignInQueue(self.run.folder / "queue", self.office.port, self.agent)
+            self.queue = make_queue(self.run.folder / "queue", self.office.port, self.agent)
             begun.callback(self.queue.stop)
             self.front = make_front(self.run.folder, self.queue.address, (
                 ("include password.conf", f"include {sign_in}"), *edits))
@@ -798,8 +803,16 @@ def programs(run, stack):
     (more / "service.conf").write_text((TOP / "front" / "service.conf").read_text().replace(
         "/var/lib/examoffice-front/front.sock", str(at)))
     stack.front.reload()
+    listed = stack.front.folder / "programs"
+
+    def reload_then():
+        browser.until("it is listed", lambda: listed.exists() and "nightly" in listed.read_text())
+        # So that a tool that doesn't wait is seen.
+        time.sleep(1)
+        stack.front.reload()
+
     # The tool reloads the front where systemd runs it.
-    reloading = threading.Timer(2, stack.front.reload)
+    reloading = threading.Thread(target=reload_then)
     reloading.start()
     status, token = ended("--socket", at, "add", "nightly", "office")
     nightly = Client(stack.front)
@@ -817,7 +830,6 @@ def programs(run, stack):
     kept.write_text("A_TOKEN=x\n")
     run.judge("renewed in its file, but not so soon", ((0, ""), "A_TOKEN=x\n"),
               (ended("renew", "nightly", "--into", kept), kept.read_text()))
-    listed = stack.front.folder / "programs"
     listed.write_text(re.sub(r"# (\S+) [0-9]+", r"# \1 1600000000000", listed.read_text()))
     run.judge("after 30 days", ((0, ""), True, 0o600), (
         ended("renew", "nightly", "--into", kept), kept.read_text().startswith("A_TOKEN=ey"),
@@ -971,6 +983,62 @@ def over_tls(run, make_front):
         stack.stop()
 
 
+class EndedConnections:
+    """Says who is signed in, as HAProxy does, once on each connection; the next question on it gets
+    its end, as if HAProxy had just been reloaded."""
+
+    def __init__(self, path):
+        self.ended, self.is_over = 0, threading.Event()
+        self.listener = socket.socket(socket.AF_UNIX)
+        self.listener.bind(str(path))
+        path.chmod(0o777)
+        self.listener.listen(64)
+        self.listener.settimeout(0.2)
+        self.pool = concurrent.futures.ThreadPoolExecutor(64)
+        self.pool.submit(self.accepts)
+
+    def accepts(self):
+        while not self.is_over.is_set():
+            with contextlib.suppress(TimeoutError):
+                self.pool.submit(self.serves, self.listener.accept()[0])
+
+    def serves(self, connection):
+        with connection, contextlib.suppress(OSError):
+            connection.settimeout(SECONDS)
+            if connection.recv(65_536):
+                connection.sendall(b"HTTP/1.1 200 OK\r\nX-Auth-Request-User: ada\r\n"
+                                   b"Content-Length: 0\r\n\r\n")
+                self.ended += bool(connection.recv(65_536))
+
+    def stop(self):
+        self.is_over.set()
+        self.listener.close()
+
+
+def kept_connections(run, make_front):
+    """A connection that nginx keeps to HAProxy may end just when it is used again, and nobody is
+    refused."""
+    folder = run.folder / "kept"
+    (folder / "queue").mkdir(parents=True)
+    folder.chmod(0o755)
+    stub = EndedConnections(folder / "queue" / "who.sock")
+    front = make_front(folder, browser.free_port(), (("include password.conf",
+                                                      "include sign_in.conf"),))
+    try:
+        client = http.client.HTTPConnection("127.0.0.1", front.port, SECONDS)
+        came = []
+        with contextlib.closing(client):
+            for _ in range(20):
+                client.request("GET", "/-/user", headers={"Cookie": "session=x"})
+                reply = client.getresponse()
+                came.append((reply.status, b"cand:1" in reply.read()))
+        run.judge("beside ends of kept connections", ({(200, True)}, True), (
+            set(came), stub.ended > 0))
+    finally:
+        front.stop()
+        stub.stop()
+
+
 def a_crowd(run, stack):
     """A thousand requests come at once from one address; the office isn't limited, others are."""
     def question(user, path, word=None):
@@ -1035,10 +1103,10 @@ def judge_stack(run, make_front):
         for method, path, body, status in (("PUT", "/drafts/1", SOLUTION, 201),
                                            ("POST", "/drafts/1/publish", b"", 200)):
             run.judge("the start", status, office.ask(method, path, body)[0])
-        for part in (sessions, asked_too_often, forged, old_hashes, users_of_a_file,
+        for part in (sessions, asked_too_often, forged, later_ends, old_hashes, users_of_a_file,
                      codes_of_letters, names_of_users, programs, basic, networks, a_crowd,
                      first_sign_ins, beside_hashes, log_of_sign_ins, ends, guesses, as_long, marks,
-                     later_ends, ends_of_browsers, own_passwords, another_key):
+                     ends_of_browsers, own_passwords, another_key):
             part(run, stack)
     finally:
         stack.stop()
@@ -1081,8 +1149,11 @@ def judge(of_front, make_front):
     run = Run.apart(of_front.program, of_front.folder, "front", "sign_in")
     bounded_log(run)
     summaries(run)
-    tls = threading.Thread(target=over_tls, args=(run, make_front))
-    tls.start()
+    beside = [threading.Thread(target=part, args=(run, make_front))
+              for part in (over_tls, kept_connections)]
+    for thread in beside:
+        thread.start()
     judge_stack(run, make_front)
-    tls.join()
+    for thread in beside:
+        thread.join()
     of_front.count, of_front.failed = of_front.count + run.count, of_front.failed + run.failed

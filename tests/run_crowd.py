@@ -30,6 +30,7 @@ import browser
 import front_queue
 import front_sign_in
 import limits
+import waiting
 from front_sign_in import jwt, processor_seconds
 from run_front import Front
 from run_serve import Run
@@ -74,10 +75,6 @@ class Waits:
                 f" 99 % {late:.2f} s, worst {ordered[-1]:.2f} s")
 
 
-class Queue(front_sign_in.SignInQueue, front_queue.ReloadedQueue):
-    """HAProxy with all that it does, which can be reloaded."""
-
-
 class University:
     """The office, its front, and who is signed in."""
 
@@ -112,7 +109,7 @@ class University:
         self.agent = front_sign_in.Agent(run.folder, folder, self.key)
         begun.callback(self.agent.stop)
         self.agent.environment["OFFICE_WAIT"] = limits.numbers()["OFFICE_WAIT"]
-        self.queue = Queue(run.folder / "queue", self.port, self.agent)
+        self.queue = front_sign_in.ReloadedQueue(run.folder / "queue", self.port, self.agent)
         begun.callback(self.queue.stop)
         self.front = Front(run.folder, self.queue.address,
                            (("include password.conf", "include sign_in.conf"),))
@@ -293,15 +290,26 @@ async def morning(university, minutes):
 
 
 async def restarts(university):
-    """The office is killed under 700 clients, and then upgraded with what is before it."""
+    """The office is killed under 700 clients, and then upgraded with what is before it: no question
+    is refused, and a change only if it was at the office. Nobody waits a second longer than for the
+    office; seconds in which somebody waits for a processor count a twentieth."""
     for name, count, act in (("kills", KILLS, kill), ("upgrades", UPGRADES, upgrade)):
-        waits, is_over = Waits(), asyncio.Event()
+        waits, changes, is_over, calm = Waits(), Waits(), asyncio.Event(), []
+        university.office.away = 0
 
-        async def client(number, waits=waits, is_over=is_over):
+        async def client(number, waits=waits, is_over=is_over, calm=calm):
             message = university.message(f"s{university.students[number]}")
             while not is_over.is_set():
+                began = waiting.calm()
                 waits.add(*await university.ask(message))
+                calm.append(waiting.calm() - began)
                 await asyncio.sleep(1 + random.random())
+
+        async def registry(changes=changes, is_over=is_over):
+            message = university.message("registry", "PUT", "/exams/1/owner", b'{"dept":3}')
+            while not is_over.is_set():
+                changes.add(*await university.ask(message))
+                await asyncio.sleep(0.1)
 
         async def acts(count=count, act=act, is_over=is_over):
             for _ in range(count):
@@ -310,8 +318,13 @@ async def restarts(university):
             await asyncio.sleep(KILL_SECONDS)
             is_over.set()
 
-        await asyncio.gather(acts(), *map(client, range(700)))
-        print(f"{count} {name} under 700 clients: {waits}", flush=True)
+        await asyncio.gather(acts(), registry(), *map(client, range(700)))
+        away = university.office.away
+        print(f"{count} {name} under 700 clients: {waits}; changes meanwhile: {changes}; the office"
+              f" was away for {away:.2f} s; the worst in calm seconds {max(calm):.2f}", flush=True)
+        if (set(waits.statuses) != {200} or set(changes.statuses) - {200, 503}
+                or changes.statuses[503] > 2 * count or max(calm) > away + 1):
+            sys.exit(f"{name}: somebody was refused, or waited longer than for the office")
 
 
 def kill(university):
