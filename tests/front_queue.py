@@ -15,6 +15,7 @@ import time
 
 import browser
 import limits
+import waiting
 from front_cases import CANDIDATE, FIRST_VIEW, ask, parted, told_error
 from run_serve import Run
 from serve_cases import SMALL, SOLUTION, batch_text, message, reply
@@ -92,8 +93,16 @@ class ReloadedQueue(Queue):
         """Reads the files again; another worker answers when this returns, and the one of before
         may still have requests that wait."""
         before = self.workers()
-        self.process.send_signal(signal.SIGUSR2)
-        browser.until("another worker is there", lambda: self.workers() - before)
+
+        def another():
+            # One that comes while HAProxy reads its files is lost.
+            self.process.send_signal(signal.SIGUSR2)
+            end = time.monotonic() + 2
+            while not (found := self.workers() - before) and time.monotonic() < end:
+                time.sleep(0.02)
+            return found
+
+        browser.until("another worker is there", another)
 
     def stop(self):
         self.process.terminate()
@@ -143,8 +152,9 @@ def addresses(count):
 
 def crowd(port, questions, sources=None):
     """Returns the replies to these questions, all asked at once, each from an address of its
-    own or from these, and the longest wait. A question that gets no reply in time has None."""
-    selector, began, waits = selectors.DefaultSelector(), time.monotonic(), {}
+    own or from these, and the longest wait, in calm seconds. A question that gets no reply in time
+    has None."""
+    selector, began, waits = selectors.DefaultSelector(), waiting.calm(), {}
     replies, parts = [None] * len(questions), collections.defaultdict(bytes)
     for number, (source, question) in enumerate(
             zip(sources or addresses(len(questions)), questions)):
@@ -153,7 +163,7 @@ def crowd(port, questions, sources=None):
         client.bind((source, 0))
         client.connect_ex(("127.0.0.1", port))
         selector.register(client, selectors.EVENT_WRITE, (number, question))
-    while selector.get_map() and time.monotonic() < began + SECONDS:
+    while selector.get_map() and waiting.calm() < began + SECONDS:
         for key, events in selector.select(1):
             number, question = key.data
             if events & selectors.EVENT_WRITE:
@@ -164,7 +174,7 @@ def crowd(port, questions, sources=None):
                 parts[number] += (part := key.fileobj.recv(65_536))
                 if part:
                     continue
-            replies[number], waits[number] = parts[number], time.monotonic() - began
+            replies[number], waits[number] = parts[number], waiting.calm() - began
             selector.unregister(key.fileobj)
             key.fileobj.close()
     for key in [*selector.get_map().values()]:
