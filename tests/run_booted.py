@@ -15,7 +15,7 @@ import tempfile
 import time
 
 from cases import Cases
-from run_package import TOP, VERSION, ran
+from run_package import TOP, ran, version_of_package
 
 SECONDS = 60
 FRONT = "/etc/examoffice/front"
@@ -293,7 +293,7 @@ def main():
         ran(TOP / "packaging" / "make", folder)
         subprocess.run(["cp", "-a", root, f"{folder}/root"], check=True)
         made = pathlib.Path(folder) / "root"
-        shutil.copy(f"{folder}/examoffice_{VERSION}_amd64.deb", made / "new.deb")
+        shutil.copy(f"{folder}/examoffice_{version_of_package()}_amd64.deb", made / "new.deb")
         shutil.copy(old, made / "old.deb")
         for name in ("small.exam", "small.sol"):
             shutil.copy(TOP / "examples" / name, made)

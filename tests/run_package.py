@@ -23,6 +23,16 @@ from cases import Cases
 
 TOP = pathlib.Path(__file__).resolve().parent.parent
 VERSION = (TOP / "VERSION").read_text().strip()
+
+
+def version_of_package():
+    """Its version and how many commits there are, as git says it; without all commits only that."""
+    git = ["git", "-c", "safe.directory=*", "-C", str(TOP)]
+    is_whole = ran(*git, "rev-parse", "--is-shallow-repository")[1] == "false\n"
+    return f"{VERSION}+{ran(*git, 'rev-list', '--count', 'HEAD')[1].strip()}" if is_whole \
+        else VERSION
+
+
 NEEDED = ("dpkg-deb", "help2man", "strip")
 
 
@@ -154,8 +164,10 @@ def says_unreadable_names(judged, folder, program):
 
 
 def of_the_package(judged, folder):
-    package = folder / f"examoffice_{VERSION}_amd64.deb"
+    version = version_of_package()
+    package = folder / f"examoffice_{version}_amd64.deb"
     judged.judge("it is made", 0, ran(TOP / "packaging" / "make", folder)[0])
+    of_versions(judged, folder, package, version)
     if shutil.which("lintian"):
         become = {"user": "nobody"} if os.geteuid() == 0 else {}
         judged.judge("lintian", (0, ""), ran("lintian", "--fail-on", "error,warning", package,
@@ -190,6 +202,33 @@ def of_the_package(judged, folder):
     of_the_pages(judged, root / "usr/share/doc/examoffice")
     if shutil.which("mandoc"):
         of_the_manual(judged, root / "usr/share/man/man1")
+
+
+def of_versions(judged, folder, package, version):
+    """Each package compares greater than the one before, all say the same, and a downgrade is
+    refused by the older package, or said by the newer one."""
+    judged.judge("it is greater than its version, and less than with one commit more", [0, 0], [
+        ran("dpkg", "--compare-versions", *words)[0] for words in (
+            (version, "gt" if "+" in version else "eq", VERSION),
+            (version, "lt", re.sub(r"\d+$", lambda last: f"{int(last[0]) + 1}", version)))])
+    judged.judge("dpkg's version", version + "\n", ran("dpkg-deb", "-f", package, "Version")[1])
+    root, scripts = folder / "root", folder / "scripts"
+    ran("dpkg-deb", "-x", package, root)
+    judged.judge("the program's, and that of the status", (
+        f"examoffice {VERSION}", f"examoffice-status {version}\n"), (
+            ran(root / "usr/bin/examoffice", "-V")[1].partition(",")[0].strip(),
+            ran(root / "usr/bin/examoffice-status", "--version")[1]))
+    ran("dpkg-deb", "-e", package, scripts)
+    older = "is older: it may not read what the newer one wrote"
+    for script, words, status in (
+            ("preinst", ("install",), 0), ("preinst", ("upgrade", "1.0.0", version), 0),
+            ("preinst", ("upgrade", version, version), 0),
+            ("preinst", ("upgrade", "9.0.0", version), 1), ("prerm", ("upgrade", "9.0.0"), 0),
+            ("prerm", ("upgrade", version), 0), ("prerm", ("upgrade", "0.9.0"), 1)):
+        came, said = ran(scripts / script, *words)
+        judged.judge(f"{script} {' '.join(words)}", (status, bool(status)), (came, older in said))
+    judged.judge("a package that is older, asked by a newer one", 1,
+                 ran(scripts / "prerm", "failed-upgrade", "9.0.0", version)[0])
 
 
 def of_the_front(judged, root):
