@@ -145,7 +145,7 @@ def outcome(world, room, file, log):
             return "harmless"
         with contextlib.closing(sqlite3.connect(path)) as db:
             look = judge(db, world.witness)
-    except sqlite3.DatabaseError:
+    except (sqlite3.DatabaseError, ValueError, TypeError):
         look = None
     finally:
         pathlib.Path(f"{path}-wal").unlink(missing_ok=True)
@@ -321,6 +321,17 @@ def by_words(run):
     run.judge("a minute that turned", (1, (
         "check_file: the office's session isn't that of its ledger: Exams:60: '60' in the ledger, "
         "'61' in the office\n")), looked(data=(one_later(whole), b"")))
+    with contextlib.closing(sqlite3.connect(world.folder / "whole.db")) as db:
+        db.execute("PRAGMA ignore_check_constraints = ON")
+        db.execute("PRAGMA writable_schema = ON")
+        db.execute("UPDATE sqlite_master SET sql = replace(sql, ' STRICT', '')")
+        db.commit()
+    with contextlib.closing(sqlite3.connect(world.folder / "whole.db")) as db:
+        db.execute("UPDATE meta SET instance = CAST(x'41ce41' AS TEXT)")
+        db.commit()
+    status, said = looked(data=((world.folder / "whole.db").read_bytes(), b""))
+    run.judge("a session that is no text, which the program refuses", (3, True),
+              (status, "can't be read" in said))
     status, said = looked(data=world.moments[1])
     run.judge("an earlier office", (3, "check_file: the office lacks 5 batches of its ledger, as "
                                     "one that was restored; the next tool sends them again\n"),

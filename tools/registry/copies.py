@@ -188,13 +188,13 @@ def judged(copy: pathlib.Path, is_settled: bool) -> tuple[list[str], list[str]]:
             if (copy / name).exists():
                 faults += faults_of_database(copy / name)
         witness = None if faults else witness_of(copy)
-    except (NotALedger, sqlite3.DatabaseError) as fault:
+        if not witness:
+            return faults, []
+        with contextlib.closing(sqlite3.connect(
+                f"{(copy / OFFICE).absolute().as_uri()}?immutable=1", uri=True)) as db:
+            look = judge(db, witness, is_settled)
+    except (NotALedger, sqlite3.DatabaseError, ValueError, TypeError) as fault:
         return [f"{fault}"], []
-    if not witness:
-        return faults, []
-    with contextlib.closing(sqlite3.connect(f"{(copy / OFFICE).absolute().as_uri()}?immutable=1",
-                                            uri=True)) as db:
-        look = judge(db, witness, is_settled)
     return look.faults, look.warnings
 
 
