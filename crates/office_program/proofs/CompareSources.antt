@@ -1,9 +1,10 @@
 -- Texts of standard input and of files, of three paths.
 use Rattle.std.proofs.Common.{IfSome, List, None, Option, Some, subst, ℕ}
 use Rattle.std.specs.Prelude.{option_map}
-use Rattle.office_check.specs.Compare.{Compares, ComparesFrom, RefusesComparison}
+use Rattle.office_check.specs.Compare.{Compares, ComparesFrom, ComparesFront, IsComparisonFrom, RefusesComparison}
 use Rattle.office_check.specs.declared.comparing.CompareFault.{CompareFault}
 use Rattle.office_check.specs.declared.comparing.CompareFault.TheVariants as compare
+use Rattle.office_output.specs.Writing.{WritesFront}
 use Rattle.office_program.proofs.SourceFacts.{may_not_read, read_text, reader_may_fail}
 use Rattle.office_program.specs.Sources.{IsReaderOf, Known, OfThreeFiles}
 use Rattle.office_program.specs.TaskFaults.{IsCompareCause, IsFirstOfThree, MayNotReadOne}
@@ -21,6 +22,21 @@ of_three first second third one two three old new reads also too from = record {
   of_second = read_text second two also from.before from.of_second;
   of_third = read_text third three too from.after from.of_third;
   are = from.compares;
+}
+
+-- the same of a front of it
+pub of_three_front : (first second third : Known) (one two three old new : Option (List ℕ))
+    → IsReaderOf first one → IsReaderOf second two → IsReaderOf third three
+    → (text : List ℕ) × IsComparisonFrom one two three text × WritesFront old new text
+    → OfThreeFiles first second third (λ a b c. ComparesFront a b c old new)
+of_three_front first second third one two three old new reads also too (text, from, front) = record {
+  one = from.instance;
+  two = from.before;
+  three = from.after;
+  of_first = read_text first one reads from.instance from.of_first;
+  of_second = read_text second two also from.before from.of_second;
+  of_third = read_text third three too from.after from.of_third;
+  are = (text, from.compares, front);
 }
 
 -- the first fault of three readers is that of their files

@@ -6,6 +6,7 @@ use Rattle.exam_model.specs.Instance.{Session}
 use Rattle.exam_model.specs.Timetable.{Placing}
 use Rattle.office_check.specs.Check.{IsInput, OfInputs}
 use Rattle.office_check.specs.Listing.{AnswersPlaces, WritesPlaces}
+use Rattle.office_check.specs.Refusing.{Refuses}
 use Rattle.office_check.specs.declared.listing.PlacesAnswer.{PlacesAnswer}
 use Rattle.office_check.specs.declared.listing.PlacesAnswer.TheVariants.{Listed, NoExam}
 use Rattle.office_check.specs.declared.checking.CheckFault.{CheckFault}
@@ -13,7 +14,7 @@ use Rattle.office_check.specs.declared.checking.CheckFault.TheVariants as check
 use Rattle.office_check.specs.declared.judging.LineForm.{LineForm}
 use Rattle.office_program.specs.CheckAll.{IsLineOf}
 use Rattle.office_program.specs.Sources.{IsReaderOf, IsTextOf, Known, MayNotOpen, OfFiles, is_stdin, source_at}
-use Rattle.office_program.specs.TaskFaults.{MayNotRead}
+use Rattle.office_program.specs.TaskFaults.{IsCheckCause, IsFirstCause, MayNotRead}
 use Rattle.office_program.specs.declared.judging.VerdictLine.{VerdictLine}
 
 -- ---- readers
@@ -125,6 +126,28 @@ may_not_read first second one two reads also (check.Instance f) may = tt
 may_not_read first second one two reads also (check.Solution f) may = tt
 may_not_read first second one two reads also check.Write may = tt
 may_not_read first second one two reads also check.NoMemory may = tt
+
+-- the first fault of two readers is that of their files
+first_of_two : (first second : Known) (one two : Option (List ℕ)) → IsReaderOf first one
+    → IsReaderOf second two → (fault : CheckFault)
+    → IfSome one (λ a. IfSome two (λ b. Refuses a b fault)) → IsFirstCause first second fault
+first_of_two None second one two reads also fault refuses = tt
+first_of_two (Some None) second one two reads also fault refuses = absurd reads
+first_of_two (Some (Some a)) None one two reads also fault refuses = tt
+first_of_two (Some (Some a)) (Some None) one two reads also fault refuses = absurd also
+first_of_two (Some (Some a)) (Some (Some b)) one two reads also fault refuses =
+    let one_known = subst (λ o. IfSome o (λ a. IfSome two (λ b. Refuses a b fault))) reads refuses in
+    subst (λ o. IfSome o (λ b. Refuses a b fault)) also one_known
+
+-- the fault of two readers is that of their files
+pub two_refused : (first second : Known) (one two : Option (List ℕ)) → IsReaderOf first one
+    → IsReaderOf second two → (fault : CheckFault)
+    → IfSome one (λ a. IfSome two (λ b. Refuses a b fault))
+    → MayNotRead (option_map Some one) (option_map Some two) fault → IsCheckCause first second fault
+two_refused first second one two reads also fault refuses may = (
+  first_of_two first second one two reads also fault refuses,
+  may_not_read first second one two reads also fault may,
+)
 
 -- what the list of places answers
 pub listed : (first second : Known) (exam : ℕ) (old new : Option (List ℕ))

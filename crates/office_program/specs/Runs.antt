@@ -11,13 +11,13 @@ use Rattle.sqlite.specs.Store.{Ghosts}
 use Rattle.exam_model.specs.Enrolments.{Enrolled}
 use Rattle.exam_model.specs.Instance.{Session}
 use Rattle.exam_model.specs.Timetable.{Placing}
-use Rattle.office_check.specs.Check.{IsReported}
-use Rattle.office_check.specs.Compare.{Compares}
-use Rattle.office_check.specs.Listing.{WritesPlaces}
+use Rattle.office_check.specs.Check.{IsReported, ReportsFront}
+use Rattle.office_check.specs.Compare.{Compares, ComparesFront}
+use Rattle.office_check.specs.Listing.{WritesPlaces, WritesPlacesFront}
 use Rattle.office_check.specs.declared.judging.LineForm.{LineForm}
 use Rattle.office_messages.specs.Visits.{Visit}
 use Rattle.office_program.specs.CheckAll.{JudgesAll, StopsAll}
-use Rattle.office_program.specs.CheckForms.{PrintsForm}
+use Rattle.office_program.specs.CheckForms.{PrintsForm, PrintsFormFront}
 use Rattle.office_program.specs.Databases.{ExportsIn, IsUnread, LeavesUnexported, LeavesUnloaded, LoadsIn, ServesNamed, UsesDatabase}
 use Rattle.office_output.specs.Writing.{WritesFront}
 use Rattle.office_program.specs.Export.{PrintsSolution, PrintsSolutionFront}
@@ -145,6 +145,23 @@ module _ {S N E : Type 0} (store : Ghosts S)
   abbrev pub HasFront : ProgramFault → (Option (List ℕ) → Option (List ℕ) → Type 0) → Type 0
   HasFront shown IsFront = shown ≡ CannotWrite → IsFront old.printed new.printed
 
+  -- a task on two files failed
+  pub record FailsToJudge (instance solution : List ℕ) (shown : ProgramFault)
+      (IsFront : Session → Enrolled → Placing → (before after : Option (List ℕ)) → Type 0)
+      : Type 0 where
+    pub unprinted : IsUnprinted shown
+    pub front : HasFront shown (λ before after. OfFiles (source_at old.stdin old.files instance)
+        (source_at old.stdin old.files solution) (λ I E T. IsFront I E T before after))
+    pub reads : Reads (IsFile instance × IsFile solution)
+
+  -- `compare` failed
+  pub record FailsToCompare (session before after : List ℕ) (shown : ProgramFault) : Type 0 where
+    pub unprinted : IsUnprinted shown
+    pub front : HasFront shown (λ was is. OfThreeFiles (source_at old.stdin old.files session)
+        (source_at old.stdin old.files before) (source_at old.stdin old.files after)
+        (λ one two three. ComparesFront one two three was is))
+    pub reads : Reads (IsFile session × IsFile before × IsFile after)
+
   -- `check-all` failed, and told nobody; or a line could not be written
   pub record FailsToJudgeEach (session : List ℕ) (solutions : List (List ℕ)) (form : LineForm)
       (shown : ProgramFault) : Type 0 where
@@ -188,17 +205,17 @@ module _ {S N E : Type 0} (store : Ghosts S)
   -- a task that failed with this fault leaves this
   abbrev pub Leaves : ProgramFault → Task → Type 0
   Leaves shown (Check instance solution) =
-      IsUnprinted shown × Reads (IsFile (string_bytes instance) × IsFile (string_bytes solution))
+      FailsToJudge (string_bytes instance) (string_bytes solution) shown ReportsFront
   Leaves shown (CheckAs instance solution form) =
-      IsUnprinted shown × Reads (IsFile (string_bytes instance) × IsFile (string_bytes solution))
+      FailsToJudge (string_bytes instance) (string_bytes solution) shown
+      (λ I E T before after. PrintsFormFront form I E T (string_bytes solution) before after)
   Leaves shown (CheckAll session solutions form) =
       FailsToJudgeEach (string_bytes session) (map string_bytes solutions.items) form shown
   Leaves shown (Places instance solution exam) =
-      IsUnprinted shown × Reads (IsFile (string_bytes instance) × IsFile (string_bytes solution))
+      FailsToJudge (string_bytes instance) (string_bytes solution) shown
+      (λ I E T before after. WritesPlacesFront I E T exam before after)
   Leaves shown (Compare session before after) =
-      IsUnprinted shown
-      × Reads (IsFile (string_bytes session) × IsFile (string_bytes before)
-      × IsFile (string_bytes after))
+      FailsToCompare (string_bytes session) (string_bytes before) (string_bytes after) shown
   Leaves shown (Load database instance) =
       FailsToLoadFile (string_bytes database) (string_bytes instance) shown
   Leaves shown (Serve database terms) = FailsToServe (string_bytes database) terms shown

@@ -1,7 +1,7 @@
 // `check`: judges a solution by the files of two paths.
 ghost use Rattle.std.specs.Prelude.{◌≡◌, ◌≢◌, ◌⊎◌, IfErr, IfOk};
 ghost use Rattle.std.specs.Io.KnownBytes.{Keeps};
-ghost use Rattle.office_program.specs.CheckForms.{AreStatuses, PrintsForm};
+ghost use Rattle.office_program.specs.CheckForms.{AreStatuses, PrintsForm, PrintsFormFront};
 ghost use Rattle.office_program.specs.Sources.{IsFile, OfFiles, source_at};
 ghost use Rattle.office_program.specs.TaskFaults.{IsOfCheck};
 
@@ -47,6 +47,11 @@ pub(crate) fn check_as<'a, T: Texts, I: TextReader, W: Write>(
         (source_at (I.remaining stdin.old) (T.known files.now))) }
     ensures unwritten { IfErr result (λ fault. fault ≢ ProgramFault.CannotWrite
         → Keeps (W.contents out.old) (W.contents out.new)) }
+    ensures front { IfErr result (λ fault. fault ≡ ProgramFault.CannotWrite
+        → OfFiles (source_at (I.remaining stdin.old) (T.known files.now) instance.now)
+        (source_at (I.remaining stdin.old) (T.known files.now) solution.now)
+        (λ session enrolled placing. PrintsFormFront form session enrolled placing solution.now
+        (W.contents out.old) (W.contents out.new))) }
     ensures unread { IsFile instance.now × IsFile solution.now
         → I.remaining stdin.new ≡ I.remaining stdin.old }
 {
@@ -91,6 +96,11 @@ pub(crate) fn check<'a, K: SolutionTask<Answer = u8>, T: Texts, I: TextReader, W
         (source_at (I.remaining stdin.old) (T.known files.now))) }
     ensures unwritten { IfErr result (λ fault. fault ≢ ProgramFault.CannotWrite
         → Keeps (W.contents out.old) (W.contents out.new)) }
+    ensures front { IfErr result (λ fault. fault ≡ ProgramFault.CannotWrite
+        → OfFiles (source_at (I.remaining stdin.old) (T.known files.now) instance.now)
+        (source_at (I.remaining stdin.old) (T.known files.now) solution.now)
+        (λ session enrolled placing. K.writes_front task.now session enrolled placing
+        (W.contents out.old) (W.contents out.new))) }
     ensures unread { IsFile instance.now × IsFile solution.now
         → I.remaining stdin.new ≡ I.remaining stdin.old }
 {

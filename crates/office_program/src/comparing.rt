@@ -1,7 +1,7 @@
 // `compare`: compares two solutions by the files of three paths.
 ghost use Rattle.std.specs.Prelude.{◌≡◌, ◌≢◌, ◌∷◌, ◌⊎◌, [], IfErr, IfOk, false, true};
 ghost use Rattle.std.specs.Io.KnownBytes.{Keeps};
-ghost use Rattle.office_check.specs.Compare.{Compares};
+ghost use Rattle.office_check.specs.Compare.{Compares, ComparesFront};
 ghost use Rattle.office_program.specs.FaultLines.{fault_line};
 ghost use Rattle.office_program.specs.Sources.{IsFile, IsReaderOf, MayNotOpen, OfThreeFiles, is_stdin};
 ghost use Rattle.office_program.specs.Sources.{is_stdin_shared, source_at};
@@ -36,6 +36,12 @@ pub(crate) fn compare<'a, T: Texts, I: TextReader, W: Write>(
         (source_at (I.remaining stdin.old) (T.known files.now))) }
     ensures unwritten { IfErr result (λ fault. fault ≢ ProgramFault.CannotWrite
         → Keeps (W.contents out.old) (W.contents out.new)) }
+    ensures front { IfErr result (λ fault. fault ≡ ProgramFault.CannotWrite → OfThreeFiles
+        (source_at (I.remaining stdin.old) (T.known files.now) session.now)
+        (source_at (I.remaining stdin.old) (T.known files.now) before.now)
+        (source_at (I.remaining stdin.old) (T.known files.now) after.now)
+        (λ one two three. ComparesFront one two three
+        (W.contents out.old) (W.contents out.new))) }
     ensures unread { IsFile session.now × IsFile before.now × IsFile after.now
         → I.remaining stdin.new ≡ I.remaining stdin.old }
 {
@@ -55,6 +61,8 @@ fn fault_of_compare<'a>(
     ensures line { fault_line result ≡ compare_line session.now before.now after.now fault }
     ensures write { fault ≡ CompareFault.Check CheckFault.Write
         → result ≡ ProgramFault.CannotWrite }
+    ensures only { result ≡ ProgramFault.CannotWrite
+        → fault ≡ CompareFault.Check CheckFault.Write }
 {
     match fault {
         CompareFault::Check(CheckFault::Solution(fault)) => ProgramFault::SolutionAt(before, fault),
@@ -88,6 +96,13 @@ fn compare_sources<T: Texts, I: TextReader, W: Write>(
         (source_at (I.remaining stdin.old) (T.known files.now) after.now) fault) }
     ensures unwritten { IfErr result (λ fault. fault ≢ CompareFault.Check CheckFault.Write
         → Keeps (W.contents out.old) (W.contents out.new)) }
+    ensures front { IfErr result (λ fault. fault ≡ CompareFault.Check CheckFault.Write
+        → OfThreeFiles
+        (source_at (I.remaining stdin.old) (T.known files.now) session.now)
+        (source_at (I.remaining stdin.old) (T.known files.now) before.now)
+        (source_at (I.remaining stdin.old) (T.known files.now) after.now)
+        (λ one two three. ComparesFront one two three
+        (W.contents out.old) (W.contents out.new))) }
     ensures unread { IsFile session.now × IsFile before.now × IsFile after.now
         → I.remaining stdin.new ≡ I.remaining stdin.old }
 {

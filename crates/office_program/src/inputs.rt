@@ -4,10 +4,11 @@ ghost use Rattle.std.specs.Prelude.{false, option_map, true};
 ghost use Rattle.std.specs.Io.KnownBytes.{Keeps};
 ghost use Rattle.exam_terms.specs.declared.limits.TheConstants.{INSTANCE_BYTES};
 ghost use Rattle.office_check.specs.Check.{OfInputs};
-ghost use Rattle.office_check.specs.Compare.{ComparesFrom, RefusesComparison};
+ghost use Rattle.office_check.specs.Compare.{ComparesFrom, IsComparisonFrom, RefusesComparison};
 ghost use Rattle.office_check.specs.Refusing.{Refuses};
 ghost use Rattle.office_check.specs.Verdicts.{IsVerdictOn};
 ghost use Rattle.office_files.specs.InstanceText.{InstanceText};
+ghost use Rattle.office_output.specs.Writing.{WritesFront};
 ghost use Rattle.office_program.specs.CheckAll.{IsInstanceCause, IsSolutionCause};
 ghost use Rattle.office_program.specs.TaskFaults.{IsTextCause, MayNotRead, MayNotReadOne};
 
@@ -101,6 +102,10 @@ pub(crate) fn answer_of<K: SolutionTask, R: TextReader, Q: TextReader, W: Write>
         (option_map Some (Q.remaining solution.old))) }
     ensures unwritten { IfErr result (λ fault. fault ≢ CheckFault.Write
         → Keeps (W.contents out.old) (W.contents out.new)) }
+    ensures front { IfErr result (λ fault. fault ≡ CheckFault.Write
+        → OfInputs (R.remaining instance.old) (Q.remaining solution.old)
+        (λ session enrolled placing. K.writes_front task.now session enrolled placing
+        (W.contents out.old) (W.contents out.new))) }
 {
     let mut first = WatchedReader::new(instance);
     let mut second = WatchedReader::new(solution);
@@ -116,6 +121,7 @@ fn check_fault(fault: CheckFault, has_first_failed: bool, has_second_failed: boo
         × (((fault ≡ CheckFault.ReadInstance) × (has_first_failed ≡ false))
         ⊎ ((fault ≡ CheckFault.ReadSolution) × (has_second_failed ≡ false)))) }
     ensures write { fault ≡ CheckFault.Write → result ≡ fault }
+    ensures only { result ≡ CheckFault.Write → fault ≡ CheckFault.Write }
     ensures first { result ≡ CheckFault.ReadInstance → has_first_failed ≡ true }
     ensures second { result ≡ CheckFault.ReadSolution → has_second_failed ≡ true }
 {
@@ -144,6 +150,9 @@ pub(crate) fn compare_readers<R: TextReader, P: TextReader, Q: TextReader, W: Wr
         (option_map Some (P.remaining before.old)) (option_map Some (Q.remaining after.old))) }
     ensures unwritten { IfErr result (λ fault. fault ≢ CompareFault.Check CheckFault.Write
         → Keeps (W.contents out.old) (W.contents out.new)) }
+    ensures front { IfErr result (λ fault. fault ≡ CompareFault.Check CheckFault.Write
+        → (text : List ℕ) × IsComparisonFrom (R.remaining session.old) (P.remaining before.old)
+        (Q.remaining after.old) text × WritesFront (W.contents out.old) (W.contents out.new) text) }
 {
     let mut first = WatchedReader::new(session);
     let mut second = WatchedReader::new(before);
@@ -171,6 +180,8 @@ fn compare_fault(
         ⊎ (((fault ≡ CompareFault.Check CheckFault.ReadSolution) × (has_second_failed ≡ false))
         ⊎ ((fault ≡ CompareFault.ReadAfter) × (has_third_failed ≡ false))))) }
     ensures write { fault ≡ CompareFault.Check CheckFault.Write → result ≡ fault }
+    ensures only { result ≡ CompareFault.Check CheckFault.Write
+        → fault ≡ CompareFault.Check CheckFault.Write }
     ensures first { result ≡ CompareFault.Check CheckFault.ReadInstance
         → has_first_failed ≡ true }
     ensures second { result ≡ CompareFault.Check CheckFault.ReadSolution

@@ -1,7 +1,7 @@
 // `places`: lists the places of an exam by the files of two paths.
 ghost use Rattle.std.specs.Prelude.{◌≡◌, ◌≢◌, IfErr, IfOk};
 ghost use Rattle.std.specs.Io.KnownBytes.{Keeps};
-ghost use Rattle.office_check.specs.Listing.{WritesPlaces};
+ghost use Rattle.office_check.specs.Listing.{WritesPlaces, WritesPlacesFront};
 ghost use Rattle.office_program.specs.Sources.{IsFile, OfFiles, source_at};
 ghost use Rattle.office_program.specs.TaskFaults.{IsOfPlaces};
 
@@ -35,6 +35,11 @@ pub(crate) fn list_places<'a, T: Texts, I: TextReader, W: Write>(
         (source_at (I.remaining stdin.old) (T.known files.now))) }
     ensures unwritten { IfErr result (λ fault. fault ≢ ProgramFault.CannotWrite
         → Keeps (W.contents out.old) (W.contents out.new)) }
+    ensures front { IfErr result (λ fault. fault ≡ ProgramFault.CannotWrite
+        → OfFiles (source_at (I.remaining stdin.old) (T.known files.now) instance.now)
+        (source_at (I.remaining stdin.old) (T.known files.now) solution.now)
+        (λ session enrolled placing. WritesPlacesFront session enrolled placing exam
+        (W.contents out.old) (W.contents out.new))) }
     ensures unread { IsFile instance.now × IsFile solution.now
         → I.remaining stdin.new ≡ I.remaining stdin.old }
 {

@@ -71,6 +71,11 @@ pub(crate) fn run_by_paths<K: SolutionTask, T: Texts, I: TextReader, W: Write>(
         (source_at (I.remaining stdin.old) (T.known files.now) solution.now) fault) }
     ensures unwritten { IfErr result (λ fault. fault ≢ CheckFault.Write
         → Keeps (W.contents out.old) (W.contents out.new)) }
+    ensures front { IfErr result (λ fault. fault ≡ CheckFault.Write
+        → OfFiles (source_at (I.remaining stdin.old) (T.known files.now) instance.now)
+        (source_at (I.remaining stdin.old) (T.known files.now) solution.now)
+        (λ session enrolled placing. K.writes_front task.now session enrolled placing
+        (W.contents out.old) (W.contents out.new))) }
     ensures unread { IsFile instance.now × IsFile solution.now
         → I.remaining stdin.new ≡ I.remaining stdin.old }
 {

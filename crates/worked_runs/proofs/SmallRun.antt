@@ -1,7 +1,8 @@
 -- What the clause of a run says of `check` on the small session, whose files are known.
-use Rattle.std.proofs.Common.{[], ◌≡◌, ap, Bool, ◌⊎◌, ◌++◌, ◌∷◌, ◌∙◌, ℕ, List, Option, Some, None, inl, inr, refl, subst, sym}
+use Rattle.std.proofs.Common.{[], ◌≡◌, ◌≢◌, ap, Bool, ◌⊎◌, ◌++◌, ◌∷◌, ◌∙◌, ℕ, List, Option, Some, None, inl, inr, refl, subst, sym}
 use Rattle.std.specs.Prelude.{codes, string_bytes}
-use Rattle.std.specs.Io.KnownBytes.{Appends}
+use Rattle.std.specs.Io.KnownBytes.{Appends, Keeps}
+use Rattle.std.proofs.KnownBytes.{Appends-kept, Appends-nil}
 use Rattle.clap.specs.Kinds.{HasKind}
 use Rattle.clap.specs.Words.{Text, kind_of}
 use Rattle.clap.specs.declared.error.Error.{Error}
@@ -14,10 +15,12 @@ use Rattle.exam_model.specs.Instance.{Session}
 use Rattle.exam_model.specs.Timetable.{Placing}
 use Rattle.office_files.specs.InstanceText.{InstanceText}
 use Rattle.office_files.specs.SolutionText.{SolutionText}
-use Rattle.office_check.specs.Check.{IsReported}
+use Rattle.office_check.specs.Check.{IsReported, ReportsFront}
 use Rattle.office_check.specs.declared.checking.CheckFault.{CheckFault}
 use Rattle.office_check.specs.declared.checking.CheckFault.TheVariants as check
 use Rattle.office_messages.specs.Visits.{Visit}
+use Rattle.office_output.specs.Writing.{WritesFront}
+use Rattle.office_output.proofs.FrontLemmas.{front_none}
 use Rattle.office_program.specs.FaultLines.{fault_line}
 use Rattle.office_program.specs.Program.{IsTask, fault_of_words}
 use Rattle.office_program.specs.Runs.{IsHelp, Refuses, Runs, RunsTask, corrects, does, fails, fails_to_help, helps, refuses, runs_command, runs_out}
@@ -27,6 +30,7 @@ use Rattle.office_program.specs.World.{World}
 use Rattle.office_program.specs.declared.ending.Ending.{Ending}
 use Rattle.office_program.specs.declared.faults.ProgramFault.{ProgramFault}
 use Rattle.office_program.specs.declared.faults.ProgramFault.TheVariants.{CannotWrite, NoMemory}
+use Rattle.office_program.specs.declared.faults.ProgramFault.TheVariants as fault
 use Rattle.office_program.specs.declared.lines.Lines as lines
 use Rattle.office_program.specs.declared.words.Task.TheVariants.{Check}
 use Rattle.worked_runs.specs.SmallSession.{check_words, session_text, solution_text, ten_lines}
@@ -56,6 +60,43 @@ module _ (first second : Known) (session : first ≡ Some (Some session_text))
     subst (Appends old new) (small_report I E T one two) report.written,
     report.status ∙ small_status I E T one two,
   ))
+
+  -- nothing is printed, which is a front of the ten lines too
+  unprinted : (old new : Option (List ℕ)) → Keeps old new → WritesFront old new ten_lines
+  unprinted old new kept = record {
+    sent = [];
+    unsent = ten_lines;
+    whole = refl;
+    written = Appends-kept old old new [] (Appends-nil old) kept;
+  }
+
+  -- after a fault, a front of the ten lines is printed
+  front_printed : (shown : ProgramFault) (old new : Option (List ℕ))
+      → (shown ≢ CannotWrite → Keeps old new)
+      → (shown ≡ CannotWrite → OfFiles first second (λ I E T. ReportsFront I E T old new))
+      → WritesFront old new ten_lines
+  front_printed CannotWrite old new kept front = of_texts _ _ (front refl)
+      (λ I E T one two part. subst (WritesFront old new) (small_report I E T one two) part)
+  front_printed (fault.CannotRead path) old new kept front =
+      unprinted old new (kept (λ is. let never : fault.CannotRead path ≡ CannotWrite = is in cc))
+  front_printed (fault.Instance f) old new kept front =
+      unprinted old new (kept (λ is. let never : fault.Instance f ≡ CannotWrite = is in cc))
+  front_printed (fault.Solution f) old new kept front =
+      unprinted old new (kept (λ is. let never : fault.Solution f ≡ CannotWrite = is in cc))
+  front_printed (fault.SolutionAt path f) old new kept front =
+      unprinted old new (kept (λ is. let never : fault.SolutionAt path f ≡ CannotWrite = is in cc))
+  front_printed (fault.CannotOpen error) old new kept front =
+      unprinted old new (kept (λ is. let never : fault.CannotOpen error ≡ CannotWrite = is in cc))
+  front_printed (fault.Store f) old new kept front =
+      unprinted old new (kept (λ is. let never : fault.Store f ≡ CannotWrite = is in cc))
+  front_printed (fault.NoExam exam) old new kept front =
+      unprinted old new (kept (λ is. let never : fault.NoExam exam ≡ CannotWrite = is in cc))
+  front_printed fault.NoPublication old new kept front =
+      unprinted old new (kept (λ is. let never : fault.NoPublication ≡ CannotWrite = is in cc))
+  front_printed fault.CannotListen old new kept front =
+      unprinted old new (kept (λ is. let never : fault.CannotListen ≡ CannotWrite = is in cc))
+  front_printed fault.NoMemory old new kept front =
+      unprinted old new (kept (λ is. let never : fault.NoMemory ≡ CannotWrite = is in cc))
 
   -- the only faults are those of memory
   of_memory : (shown : ProgramFault) (instance solution : List ℕ) (of : CheckFault)
@@ -95,11 +136,11 @@ module _ {S N E : Type 0} (store : Ghosts S)
     (words : List Text) (is : words ≡ check_words)
     (session : old.files (codes "small.exam") ≡ Some (Some session_text))
     (timetable : old.files (codes "small.sol") ≡ Some (Some solution_text)) where
-  -- the ten lines are printed and the status is 0; or it is 1, and the line of want of memory, or
-  -- of a failed write, was tried to be written
+  -- the ten lines are printed and the status is 0; or a front of them is, it is 1, and the line of
+  -- want of memory, or of a failed write, was tried to be written
   abbrev pub EndsSmall : Type 0
   EndsSmall = ((end.status ≡ 0) × Appends old.printed new.printed ten_lines)
-      ⊎ ((end.status ≡ 1)
+      ⊎ ((end.status ≡ 1) × WritesFront old.printed new.printed ten_lines
       × (told.tells old.errors (fault_line NoMemory ++ 10 ∷ []) end.is_err_written new.errors
       ⊎ told.tells old.errors (fault_line CannotWrite ++ 10 ∷ []) end.is_err_written new.errors))
 
@@ -125,12 +166,19 @@ module _ {S N E : Type 0} (store : Ghosts S)
       let cause = at_paths (λ f s. IsCheckCause f s run.fails.of.of) _ _ one two
       (run.fails.of.cause (rw (one, two) refl)) in
       let same : run.before.errors ≡ old.errors =
-      ap (λ (w : World (Held S) N E). w.errors) run.fails.leaves.1.rest in
+      ap (λ (w : World (Held S) N E). w.errors) run.fails.leaves.reads.rest in
+      let printed : new.printed ≡ run.before.printed =
+      ap (λ (w : World (Held S) N E). w.printed) run.complains.rest in
       let line : told.tells old.errors (fault_line run.shown ++ 10 ∷ []) end.is_err_written new.errors =
       subst (λ w. told.tells w (fault_line run.shown ++ 10 ∷ []) end.is_err_written new.errors) same
       run.complains.line in
       inr (
         run.complains.status,
+        subst (λ is. WritesFront old.printed is ten_lines) (sym printed)
+            (front_printed _ _ session timetable run.shown old.printed run.before.printed
+            run.fails.leaves.unprinted (λ is. at_paths
+            (λ f s. OfFiles f s (λ I E T. ReportsFront I E T old.printed run.before.printed))
+            _ _ one two (run.fails.leaves.front is))),
         elim (of_memory _ _ session timetable run.shown (string_bytes instance)
             (string_bytes solution) run.fails.of.of run.fails.of.line cause) [
               | inl e ↦ inl (subst (λ l. told.tells old.errors (l ++ 10 ∷ []) end.is_err_written
@@ -142,7 +190,13 @@ module _ {S N E : Type 0} (store : Ghosts S)
 
   of_refusal : (error : Error) → kind_of error ≡ kind.OutOfMemory
       → Refuses store AreOfPort told contents old new error end → EndsSmall
-  of_refusal error memory (runs_out of complains) = inr (complains.status, inl complains.line)
+  of_refusal error memory (runs_out of complains) = inr (
+    complains.status,
+    subst (λ is. WritesFront old.printed is ten_lines)
+        (sym (ap (λ (w : World (Held S) N E). w.printed) complains.rest))
+        (front_none old.printed ten_lines),
+    inl complains.line,
+  )
   of_refusal error memory (corrects mistake told_so) = absurd (mistake.0 memory)
   of_refusal error memory (helps help done) = absurd (no_help _ memory help)
   of_refusal error memory (fails_to_help help failed) = absurd (no_help _ memory help)

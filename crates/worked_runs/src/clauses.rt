@@ -2,6 +2,7 @@
 ghost use Rattle.std.specs.Prelude.{◌≡◌, ◌⊎◌, IfOk, IsSomeAnd, IsTrue, None, Some, [], codes};
 ghost use Rattle.sqlite.specs.Held.{state};
 ghost use Rattle.sqlite.specs.Steps.{over_memory};
+ghost use Rattle.office_output.specs.Writing.{WritesFront};
 ghost use Rattle.office_program.specs.Folders.{bytes_at};
 ghost use Rattle.office_program.specs.Export.{published_solution};
 ghost use Rattle.office_program.specs.Foreign.{OfOffice};
@@ -63,6 +64,9 @@ fn check_small(
     // The ten lines are written and the status is 0, or it is 1.
     ensures status { IfOk result (λ run. (run.0.status ≡ 0) ⊎ (run.0.status ≡ 1)) }
     ensures lines { IfOk result (λ run. run.0.status ≡ 0 → run.1.items ≡ ten_lines) }
+
+    // Also if `out` failed, nothing is in the place of a front of them.
+    ensures front { IfOk result (λ run. WritesFront (Some []) (Some run.1.items) ten_lines) }
 
     // Then memory ran out for the run or for `out`, and the line that was tried to be written says
     // so.

@@ -65,6 +65,59 @@ returns-in-Ok-compare-clause-does g c =
       },
     )
 
+-- a task on files failed, and a front of what it prints is left
+pub returns-in-Err-clause-fails : goal.returns-in-Err-clause-fails
+returns-in-Err-clause-fails g c = record {
+  of = rw (c.in-Check.is, ← c.deref.ensures, ← c.deref-in-Check.ensures) c.in-Err.ensures.fault;
+  leaves = rw (c.in-Check.is, ← c.deref.ensures, ← c.deref-in-Check.ensures) (record {
+    unprinted = c.in-Err.ensures.unwritten;
+    front = c.in-Err.ensures.front;
+    reads = record { unread = c.in-Err.ensures.unread; rest = refl };
+  });
+}
+
+pub returns-in-Err-check_as-clause-fails : goal.returns-in-Err-check_as-clause-fails
+returns-in-Err-check_as-clause-fails g c = record {
+  of = rw (c.in-CheckAs.is, ← c.deref-in-CheckAs.ensures, ← c.deref-in-CheckAs-2.ensures)
+      c.in-Err-check_as.ensures.fault;
+  leaves = rw (c.in-CheckAs.is, ← c.deref-in-CheckAs.ensures, ← c.deref-in-CheckAs-2.ensures) (record {
+    unprinted = c.in-Err-check_as.ensures.unwritten;
+    front = c.in-Err-check_as.ensures.front;
+    reads = record { unread = c.in-Err-check_as.ensures.unread; rest = refl };
+  });
+}
+
+pub returns-in-Err-list_places-clause-fails : goal.returns-in-Err-list_places-clause-fails
+returns-in-Err-list_places-clause-fails g c = record {
+  of = rw (c.in-Places.is, ← c.deref-in-Places.ensures, ← c.deref-in-Places-2.ensures)
+      c.in-Err-list_places.ensures.fault;
+  leaves = rw (c.in-Places.is, ← c.deref-in-Places.ensures, ← c.deref-in-Places-2.ensures) (record {
+    unprinted = c.in-Err-list_places.ensures.unwritten;
+    front = c.in-Err-list_places.ensures.front;
+    reads = record { unread = c.in-Err-list_places.ensures.unread; rest = refl };
+  });
+}
+
+pub returns-in-Err-compare-clause-fails : goal.returns-in-Err-compare-clause-fails
+returns-in-Err-compare-clause-fails g c = record {
+  of = rw (
+    c.in-Compare.is,
+    ← c.deref-in-Compare.ensures,
+    ← c.deref-in-Compare-2.ensures,
+    ← c.deref-in-Compare-3.ensures,
+  ) c.in-Err-compare.ensures.fault;
+  leaves = rw (
+    c.in-Compare.is,
+    ← c.deref-in-Compare.ensures,
+    ← c.deref-in-Compare-2.ensures,
+    ← c.deref-in-Compare-3.ensures,
+  ) (record {
+    unprinted = c.in-Err-compare.ensures.unwritten;
+    front = c.in-Err-compare.ensures.front;
+    reads = record { unread = c.in-Err-compare.ensures.unread; rest = refl };
+  });
+}
+
 -- what becomes of the database of the words
 pub returns-in-Ok-load-clause-does : goal.returns-in-Ok-load-clause-does
 returns-in-Ok-load-clause-does g c =

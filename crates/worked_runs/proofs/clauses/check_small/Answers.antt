@@ -1,5 +1,7 @@
-use Rattle.std.proofs.Common.{[], ◌∷◌, ◌≡◌, ◌∙◌, ◌++◌, List, Option, Some, ap, inl, inr, refl, ℕ}
+use Rattle.std.proofs.Common.{[], ◌∷◌, ◌≡◌, ◌∙◌, ◌++◌, List, Option, Some, ap, inl, inr, refl, subst, ℕ}
 use Rattle.std.specs.Prelude.{codes}
+use Rattle.office_output.specs.Writing.{WritesFront}
+use Rattle.office_output.proofs.FrontLemmas.{front_whole}
 use Rattle.office_program.specs.Folders.{bytes_at}
 use Rattle.office_program.specs.Sources.{Known}
 use Rattle.worked_runs.specs.SmallSession.{check_words, session_text, solution_text, ten_lines}
@@ -28,9 +30,14 @@ returns c =
         | inl done ↦ done.1 ∙ ap (λ (a : List ℕ). a ++ ten_lines) c.new.ensures.items
         | inr failed ↦ absurd (one_is_not_0 _ failed.0 zero)
       ];
+      front = subst (λ (before : List ℕ). WritesFront (Some before) (Some _) ten_lines)
+          c.new.ensures.items (elim ends [
+            | inl done ↦ front_whole _ _ ten_lines done.1
+            | inr failed ↦ failed.1
+          ]);
       fault = λ one is_written. elim ends [
         | inl done ↦ absurd (one_is_not_0 _ one done.0)
-        | inr failed ↦ elim failed.1 [
+        | inr failed ↦ elim failed.2 [
           | inl told ↦ inl (told is_written
               ∙ ap (λ (a : List ℕ). a ++ codes "examoffice: no memory\n") c.new-2.ensures)
           | inr told ↦ inr (told is_written
