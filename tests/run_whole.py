@@ -289,6 +289,23 @@ def others_wait(run):
         run.judge("all belongs together", (0, ""), it.is_together())
 
 
+def in_one_second(run):
+    """A restore moves nothing onto what another one of the same second put aside."""
+    with session(run, "second") as it:
+        it.logged("PUT", "/drafts/1", SOLUTION.decode())
+        it.logged("POST", "/drafts/1/publish")
+        it.sent(SMALL + XAVIER, "--many")
+        copy, state = it.back_up(), it.state()
+        it.office.killed()
+        for seconds in range(1_000):
+            moment = datetime.datetime.now() + datetime.timedelta(seconds=seconds)
+            (it.made / f"before-{moment:%Y%m%dT%H%M%S}" / "states" / "0").mkdir(
+                parents=True, exist_ok=True)
+        run.judge("a restore in the second of another", (0, ""), it.restore(copy, "--all")[::2])
+        it.start()
+        run.judge("all is as it was", state, it.state())
+
+
 def killed(run, each, first=1):
     """A restore is killed at each call that changes something, and the next one finishes it."""
     with session(run, "killed") as it:
@@ -329,7 +346,7 @@ def main():
     words.add_argument("--only")
     given = words.parse_args()
     tests = {test.__name__: test for test in (what_a_copy_has, changes_meanwhile, put_back,
-                                              of_other_kinds, others_wait)}
+                                              of_other_kinds, others_wait, in_one_second)}
     tests["killed"] = functools.partial(killed, each=given.each, first=given.first)
     tests = {name: test for name, test in tests.items() if given.only in (None, name)}
     with tempfile.TemporaryDirectory() as folder:

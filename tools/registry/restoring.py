@@ -8,6 +8,7 @@ import ctypes
 import dataclasses
 import datetime
 import fcntl
+import itertools
 import json
 import os
 import pathlib
@@ -93,12 +94,25 @@ class Restore:
 
     # ---- The steps
 
+    def aside_of(self, name: str) -> list[pathlib.Path]:
+        """Where a restore puts aside what it finds: the office's files, and the ledger's."""
+        database, folder = self.whole.database, self.whole.ledger
+        return [database.with_name(f"{database.name}.{name}"), *([folder / name] if folder else [])]
+
+    def free_name(self) -> str:
+        """A name for what is put aside that no restore has used, also in the same second."""
+        name = moment = datetime.datetime.now().strftime("before-%Y%m%dT%H%M%S")
+        for number in itertools.count(2):
+            if not any(path.exists() for path in self.aside_of(name)):
+                break
+            name = f"{moment}-{number}"
+        return name
+
     def step(self, state: str) -> None:
         """Notes how far it is. Tools look for the mark in the ledger's folder, and the service that
         serves the file for the one beside it."""
         if not self.noted:
-            moment = datetime.datetime.now().strftime("%Y%m%dT%H%M%S")
-            self.noted = {"copy": f"{self.copy}", "aside": f"before-{moment}",
+            self.noted = {"copy": f"{self.copy}", "aside": self.free_name(),
                           "ledger": self.has_ledger() and self.whole.ledger is not None and (
                               self.is_all or not self.is_newer_there())}
         self.noted["state"] = state
@@ -134,10 +148,10 @@ class Restore:
     def put_aside(self) -> None:
         """Moves what is there away, logs too: one that stays would be read into what comes."""
         database, folder = self.whole.database, self.whole.ledger
-        old = [(database.with_name(f"{database.name}{end}"), database.with_name(
-            f"{database.name}.{self.noted['aside']}")) for end in ENDS]
+        beside, *within = self.aside_of(self.noted["aside"])
+        old = [(database.with_name(f"{database.name}{end}"), beside) for end in ENDS]
         if folder and self.takes_ledger():
-            aside = folder / self.noted["aside"]
+            [aside] = within
             old += [(folder / f"{name}{end}", aside) for name in (LEDGER, HISTORY) for end in ENDS]
             old += [(folder / name, aside) for name in (NOW, STATES)]
         for path, aside in old:
