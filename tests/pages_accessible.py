@@ -7,9 +7,11 @@ screen reader makes of changes; docs/REGISTRY.md says what is known to be missin
 import re
 import urllib.parse
 
+from front_cases import BROKEN, ask
 from front_page import opened, reading
 from pages_all import CONTRAST
 from run_serve import TOP
+from serve_cases import SOLUTION
 
 # Of everything that can be pressed, chosen or typed into, what is smaller than 24 by 24 pixels and
 # nearer than that to something else; links in a sentence and cells of a grid may be. A label is a
@@ -84,7 +86,7 @@ return found;
 RULES = {"targets": TARGETS, "names": NAMELESS, "structure": STRUCTURE, "contrast": CONTRAST,
          "width": WIDE}
 # For each rule a page that breaks it, and what the rule finds there.
-BROKEN = [
+BREAKING = [
     ("targets", "<a href='/a' style='display: block; width: 9px; height: 9px'>a</a>"
      "<a href='/b' style='display: block; width: 99px; height: 30px'>b</a>", ["A a"]),
     ("names", "<button id='x'></button><input type='text'>",
@@ -95,22 +97,23 @@ BROKEN = [
     ("width", "<p style='width: 992px'>wide</p>", ["680 px"]),
     ("focus", "<button style='outline: none'>a</button>", ["BUTTON a"]),
 ]
-MOVING = ["focus #pictures tbody tr:nth-child(1) td:nth-child(4)", "write m"]
+# An exam of draft 7, which has places, is being moved; draft 8 breaks a rule.
+MOVING = [("set", "#find", "MATH101"), "click #found tbody a", "click #cell .move"]
 # Who reads which page, and what they did before.
 STATES = [
     ("ada", "candidate.html", []), ("ben", "candidate.html", []), ("cleo", "candidate.html", []),
     ("registry", "registry.html#timetable/published", []),
-    ("registry", "registry.html#timetable/draft-1", []),
-    ("registry", "registry.html#timetable/draft-2", []),
-    ("registry", "registry.html#timetable/draft-1", MOVING),
-    ("registry", "registry.html#timetable/draft-1", [
+    ("registry", "registry.html#timetable/draft-7", []),
+    ("registry", "registry.html#timetable/draft-8", []),
+    ("registry", "registry.html#timetable/draft-7", MOVING),
+    ("registry", "registry.html#timetable/draft-7", [
         *MOVING, "click #cell-body .buttons :nth-child(3)"]),
-    ("registry", "registry.html#timetable/draft-1", [("set", "#find", "math")]),
-    ("registry", "registry.html#timetable/draft-1", [("set", "#compare", "Draft 2")]),
-    ("registry", "registry.html#timetable/draft-1", ["click #drop"]),
+    ("registry", "registry.html#timetable/draft-7", [("set", "#find", "math")]),
+    ("registry", "registry.html#timetable/draft-7", [("set", "#compare", "Draft 8")]),
+    ("registry", "registry.html#timetable/draft-7", ["click #drop"]),
     ("registry", "registry.html#conflicts/published", []),
-    ("registry", "registry.html#conflicts/draft-2", []),
-    ("registry", "registry.html#conflicts/draft-2", [("set", "#conflict-words", "nobody")]),
+    ("registry", "registry.html#conflicts/draft-8", []),
+    ("registry", "registry.html#conflicts/draft-8", [("set", "#conflict-words", "nobody")]),
     ("registry", "registry.html#seats", []),
     ("registry", "registry.html#seats", ["click #seatless"]),
     ("registry", "registry.html#late-changes", []),
@@ -145,7 +148,7 @@ def still_text(name):
 
 def rules_find(run, reader):
     """Each rule finds what breaks it."""
-    for rule, body, expected in BROKEN:
+    for rule, body, expected in BREAKING:
         text = ("<!doctype html><html lang='en'><title>a</title>"
                 "<meta name='viewport' content='width=device-width'>"
                 f"<body style='background: white'><main>{body}</main>")
@@ -158,11 +161,16 @@ def readable_by_all(run, chromium, front):
     """All pages keep the rules on a small screen."""
     with reading(chromium, front, "ada", "candidate.html", width=320, height=600) as reader:
         rules_find(run, reader)
+    for number, solution in ((7, SOLUTION), (8, BROKEN)):
+        run.judge(f"draft {number}", 201, front.told(
+            ask("registry", "PUT", f"/drafts/{number}", solution))[0])
     for user, page, acts in STATES:
         name = f"{page} for {user} after {acts}"
         with opened(run, chromium, front, user, page, width=320, height=600) as opening:
             opening.act(*acts)
             judge_rules(run, opening.reader, name)
+    for number in (7, 8):
+        front.told(ask("registry", "DELETE", f"/drafts/{number}"))
     for name in STILL:
         with reading(chromium, front, "ada", "candidate.html", width=320, height=600) as reader:
             reader.run(SHOWN, still_text(name))
