@@ -1,5 +1,6 @@
-use Rattle.std.proofs.Common.{[], ◌∷◌, ◌≡◌, ◌∙◌, ◌++◌, List, Option, Some, ap, inl, inr, refl, subst, ℕ}
+use Rattle.std.proofs.Common.{[], ◌∷◌, ◌≡◌, ◌∙◌, ◌++◌, ◌⊎◌, List, Option, Some, ap, inl, inr, refl, subst, ℕ}
 use Rattle.std.specs.Prelude.{codes}
+use Rattle.std.specs.Io.KnownBytes.{Appends}
 use Rattle.office_output.specs.Writing.{WritesFront}
 use Rattle.office_output.proofs.FrontLemmas.{front_whole}
 use Rattle.office_program.specs.Folders.{bytes_at}
@@ -8,6 +9,17 @@ use Rattle.worked_runs.specs.SmallSession.{check_words, session_text, solution_t
 use Rattle.worked_runs.proofs.SmallLoad.{one_is_not_0}
 use Rattle.worked_runs.proofs.SmallRun.{ends_small}
 use Rattle.worked_runs.proofs.clauses.check_small.Goals as goal
+
+-- a front of the ten lines is in the place of nothing
+printed_front : (status : ℕ) (before : List ℕ) (new : Option (List ℕ)) (Told : Type 0) → before ≡ []
+    → ((status ≡ 0) × Appends (Some before) new ten_lines)
+    ⊎ ((status ≡ 1) × WritesFront (Some before) new ten_lines × Told)
+    → WritesFront (Some []) new ten_lines
+printed_front status before new Told is (inl done) =
+    subst (λ (b : List ℕ). WritesFront (Some b) new ten_lines) is
+    (front_whole (Some before) new ten_lines done.1)
+printed_front status before new Told is (inr failed) =
+    subst (λ (b : List ℕ). WritesFront (Some b) new ten_lines) is failed.1
 
 pub returns : goal.returns
 returns c =
@@ -30,11 +42,7 @@ returns c =
         | inl done ↦ done.1 ∙ ap (λ (a : List ℕ). a ++ ten_lines) c.new.ensures.items
         | inr failed ↦ absurd (one_is_not_0 _ failed.0 zero)
       ];
-      front = subst (λ (before : List ℕ). WritesFront (Some before) (Some _) ten_lines)
-          c.new.ensures.items (elim ends [
-            | inl done ↦ front_whole _ _ ten_lines done.1
-            | inr failed ↦ failed.1
-          ]);
+      front = printed_front _ _ _ _ c.new.ensures.items ends;
       fault = λ one is_written. elim ends [
         | inl done ↦ absurd (one_is_not_0 _ one done.0)
         | inr failed ↦ elim failed.2 [
