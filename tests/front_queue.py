@@ -131,9 +131,10 @@ class RestartingOffice:
                                             stdout=subprocess.PIPE, stderr=subprocess.DEVNULL)
             if self.process.stdout.readline():
                 self.away = max(self.away, time.monotonic() - ended if ended else 0)
-                self.starts += 1
+                self.starts, ended = self.starts + 1, None
             self.process.wait()
-            ended = time.monotonic()
+            # One that ended before it listened was away all the time.
+            ended = ended or time.monotonic()
             self.process.stdout.close()
             self.is_over.wait(self.moment)
 
