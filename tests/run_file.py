@@ -31,8 +31,8 @@ from registry.office import Office as Asked
 
 SECONDS, SEED = 180, 2030
 EXAMS, PERIODS, STUDENTS = 60, 40, 300
-# What has no second witness: drafts, who owns which exam, and of batches their counts and those that
-# the ledger didn't send.
+# What has no second witness: drafts, who owns which exam, and of batches their counts and those
+# that the ledger didn't send.
 UNSEEN = {"draft", "night_draft", "slot", "owner", "batch"}
 TABLES = ("meta", "owner", "enrol", "draft", "slot", "placed", "seat", "share_student",
           "share_part", "batch", "night_draft", "night_share")
